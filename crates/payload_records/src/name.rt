@@ -1,0 +1,153 @@
+// Names of tables, queues, sessions, fields and consumers.
+ghost use Rattle.std.specs.Prelude.{◌≡◌, ◌++◌, IsTrue, IfOk, OnOk, IsErrOf, Some, false, refl};
+ghost use Rattle.std.specs.Cmp.{on_equiv, on_per, on_po, on_total, partial_equiv_from_equiv};
+ghost use Rattle.std.specs.Cmp.Lexicographic.{slice_cmp, nat_list_eq_equiv, nat_list_cmp_total, texts_ties, texts_po};
+ghost use Rattle.std.specs.List.{list_all};
+ghost use Rattle.std.specs.Ordering.{nat_cmp};
+ghost use Rattle.std.specs.Str.{bytes_eq};
+ghost use Rattle.payload_records.specs.Name.{is_name, is_name_byte, is_small_letter};
+ghost use Rattle.payload_records.specs.declared.name.NameFault.TheVariants.{Memory};
+
+use crate::{Copied, NAME_LIMIT};
+use std::alloc::{AllocError, Global};
+use std::cmp::Ordering;
+use std::marker::Model;
+
+/// A name, which contracts see as its bytes.
+#[derive(Debug, Drop)]
+pub struct Name {
+    text: String,
+}
+
+impl Model for Name {
+    ghost use Rattle.std.specs.Prelude.{List, ℕ, string_bytes};
+
+    ghost Value = { List ℕ };
+
+    ghost view = { λ n. string_bytes n.text };
+}
+
+/// Why a text was not read as a name.
+#[derive(Clone, Copy, Debug, PartialEq, Eq)]
+pub enum NameFault {
+    /// It is no name.
+    Bad,
+    /// There was no memory for it.
+    Memory,
+}
+
+impl From<AllocError> for NameFault {
+    ghost from_gives = { λ _ e. e ≡ Memory };
+
+    fn from(_: AllocError) -> Self {
+        NameFault::Memory
+    }
+}
+
+fn is_small_letter(byte: u8) -> bool
+    ensures { result ≡ is_small_letter byte }
+{
+    byte.is_ascii_lowercase()
+}
+
+fn is_name_byte(byte: u8) -> bool
+    ensures { result ≡ is_name_byte byte }
+{
+    is_small_letter(byte) || byte.is_ascii_digit() || byte == b'_'
+}
+
+fn has_name_bytes(text: &[u8]) -> bool
+    ensures { result ≡ list_all is_name_byte text.now }
+{
+    text.iter().all(|byte| is_name_byte(*byte))
+}
+
+fn is_name(text: &[u8]) -> bool
+    ensures { result ≡ is_name text.now }
+{
+    match text {
+        [] => false,
+        [first, ..] => {
+            is_small_letter(*first) && has_name_bytes(text) && text.len() <= NAME_LIMIT
+        }
+    }
+}
+
+impl Name {
+    /// The name that a text is. `Bad` is told exactly where the text is none: a small letter, and
+    /// then small letters, digits and underscores, 30 bytes at most.
+    pub fn read(alloc: Global, text: &str) -> Result<Name, NameFault>
+        ensures ok { IfOk result (λ name. name ≡ text.now) }
+        ensures named { OnOk result (IsTrue (is_name text.now)) }
+        ensures bad { IsErrOf result NameFault.Bad → is_name text.now ≡ false }
+    {
+        if !is_name(text.as_bytes()) {
+            return Err(NameFault::Bad);
+        }
+        Ok(Name {
+            text: String::from_str(alloc, text)?,
+        })
+    }
+
+    /// The name with a text behind it. Nothing holds it to the limit of a name that is read.
+    pub fn with_suffix(&self, suffix: &str) -> Result<Name, AllocError>
+        ensures { IfOk result (λ name. name ≡ self.now ++ suffix.now) }
+    {
+        let mut text = self.text.clone()?;
+        text.push_str(suffix)?;
+        Ok(Name { text })
+    }
+
+    /// The bytes of the name as a text. It takes no memory.
+    pub fn as_str(&self) -> &str
+        ensures { result.now ≡ self.now }
+    {
+        self.text.as_str()
+    }
+}
+
+impl Copied for Name {
+    fn copied(&self) -> Result<Self, AllocError> {
+        Ok(Name {
+            text: self.text.clone()?,
+        })
+    }
+}
+
+impl PartialEq for Name {
+    ghost eq = { bytes_eq };
+
+    ghost laws = { on_per (λ n. n) (partial_equiv_from_equiv nat_list_eq_equiv) };
+
+    fn eq(&self, other: &Self) -> bool {
+        self.text == other.text
+    }
+}
+
+impl Eq for Name {
+    ghost laws = { on_equiv (λ n. n) nat_list_eq_equiv };
+}
+
+impl PartialOrd for Name {
+    ghost partial_cmp = { λ a b. Some (slice_cmp nat_cmp a b) };
+
+    ghost laws = { on_po (λ n. n) texts_po };
+
+    fn partial_cmp(&self, other: &Self) -> Option<Ordering> {
+        Some(self.cmp(other))
+    }
+}
+
+impl Ord for Name {
+    ghost cmp = { slice_cmp nat_cmp };
+
+    ghost total = { on_total (λ n. n) nat_list_cmp_total };
+
+    ghost matches_partial_cmp = { λ a b. refl };
+
+    ghost matches_eq = { texts_ties };
+
+    fn cmp(&self, other: &Self) -> Ordering {
+        self.text.cmp(&other.text)
+    }
+}
