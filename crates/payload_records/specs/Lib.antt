@@ -1,3 +1,4 @@
 pub mod Kind
 pub mod Name
 pub mod Order
+pub mod formers

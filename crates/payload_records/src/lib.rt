@@ -3,11 +3,13 @@
 //! A record is exactly what the JSON object of a payload says: one datum for each field of its type.
 #![tactic(auto)]
 
+mod boxed;
 mod kind;
 mod list;
 mod name;
 mod text;
 
+pub use boxed::Boxed;
 pub use kind::{Field, Kind, RecordType, TypeFault};
 pub use list::{Copied, Iter, List};
 pub use name::{Name, NameFault};

@@ -25,8 +25,11 @@ pub struct List<T> {
 
 impl<T> Model for List<T> {
     ghost use Rattle.std.specs.Prelude.{List as Sequence};
+    ghost use Rattle.std.specs.Coded.{coded_list};
 
     ghost Value = { Sequence T };
+
+    ghost coded = { coded_list T.code };
 
     ghost view = { λ l. l.items.items };
 }
@@ -67,6 +70,11 @@ impl<T> List<T> {
         ensures { result.items ≡ self }
     {
         self.items
+    }
+
+    /// The allocator that the list grows by.
+    pub fn allocator(&self) -> Global {
+        *self.items.allocator()
     }
 
     /// How many items there are.
