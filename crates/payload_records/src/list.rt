@@ -250,3 +250,9 @@ impl<T: PartialEq> PartialEq for List<T> {
 impl<T: Eq> Eq for List<T> {
     ghost laws = { on_equiv (λ l. l) (lists_equiv T.Eq.laws) };
 }
+
+impl Copied for i64 {
+    fn copied(&self) -> Result<Self, AllocError> {
+        Ok(*self)
+    }
+}

@@ -1,0 +1,8 @@
+//! What orders the messages of a queue: sort lists and places.
+#![tactic(auto)]
+
+mod place;
+mod sort_list;
+
+pub use place::Place;
+pub use sort_list::{Column, SortList};
