@@ -1,0 +1,6 @@
+pub mod Entries
+pub mod Passes
+pub mod Rule
+pub mod Steps
+pub mod Views
+pub mod Written
