@@ -1,5 +1,5 @@
 -- Lists of entries, each made by an actor.
-use Rattle.std.specs.Prelude.{◌≡◌, ℕ, ◌==◌, ltb, List, ◌++◌, length, filter, All, cond}
+use Rattle.std.specs.Prelude.{◌≡◌, ℕ, ◌==◌, ltb, List, length, filter, All, cond}
 
 -- the entries of one actor, in their order
 abbrev pub entries_by : {E : Type 0} → (E → ℕ) → ℕ → List E → List E

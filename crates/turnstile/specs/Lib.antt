@@ -1,3 +1,5 @@
+pub mod Counting
+pub mod Crew
 pub mod Entries
 pub mod Passes
 pub mod Rule

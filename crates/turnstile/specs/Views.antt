@@ -1,5 +1,5 @@
 -- What a view becomes at each step.
-use Rattle.std.specs.Prelude.{◌≡◌, ℕ, List, [], ◌∷◌, ◌++◌, length, Contains, drop, true, false, Some, None}
+use Rattle.std.specs.Prelude.{ℕ, List, [], ◌∷◌, ◌++◌, length, Contains, drop, true, false, Some, None}
 use Rattle.turnstile.specs.declared.rule.View.{View}
 use Rattle.turnstile.specs.Entries.{longer}
 

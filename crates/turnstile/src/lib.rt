@@ -7,6 +7,7 @@ mod line;
 mod lock;
 mod pass;
 mod rule;
+pub mod tally;
 mod turn;
 
 pub use grows::Grows;

@@ -1,0 +1,14 @@
+use Rattle.std.proofs.Common.{◌≡◌, ◌≤◌, vec_len, vec_capacity}
+use Rattle.turnstile.specs.Passes.{known, IsPassOf}
+use Rattle.turnstile.specs.Crew.{AreFresh}
+use Rattle.turnstile.proofs.Crews.{HasSplit}
+use Rattle.turnstile.proofs.tally.crew.split_all.Given as goal
+
+abbrev pub invariant-loop-actor : goal.invariant-loop-actor
+invariant-loop-actor l = record {
+  pass : IsPassOf l.turnstile l.first;
+  made : HasSplit l.actors l.actor (known l.first);
+  count : vec_len l.workers ≡ l.actor;
+  room : l.actors ≤ vec_capacity l.workers;
+  crew : AreFresh l.turnstile l.workers.items;
+}

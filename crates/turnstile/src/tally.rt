@@ -1,0 +1,90 @@
+//! The smallest value that a turnstile can hold, and a run in which threads add to it.
+ghost use Rattle.std.specs.Prelude.{◌≡◌, ℕ, List, [], ◌∷◌, ◌++◌, OnOk, OnErr};
+ghost use Rattle.turnstile.specs.Passes.{known, IsPassOf};
+ghost use Rattle.turnstile.specs.Counting.{Adds, numbered};
+
+mod crew;
+#[cfg(test)]
+mod tests;
+
+use crate::grows::Grows;
+use crate::lock::Turnstile;
+use crate::pass::Pass;
+pub use crew::gathered;
+use std::alloc::{AllocError, Global};
+use std::sync::Wait;
+
+/// A list to which each actor adds numbers.
+#[derive(Drop)]
+pub struct Tally {
+    /// The actor and the number of each entry, in the order in which they were added.
+    pub pairs: Vec<(u32, u32)>,
+}
+
+impl Grows for Tally {
+    type Opening = ();
+
+    type Entry = (u32, u32);
+
+    ghost opening = { λ _. tt };
+
+    ghost entries = { λ t. t.pairs.items };
+
+    ghost actor = { λ e. e.0 };
+}
+
+impl Tally {
+    /// An empty list.
+    pub fn new(alloc: Global) -> Tally
+        ensures { result.pairs.items ≡ [] }
+    {
+        Tally {
+            pairs: Vec::new(alloc),
+        }
+    }
+}
+
+/// Takes one turn and adds one number under the pass's own. The error is want of memory, and then nothing is added.
+pub fn add<R: Wait>(
+    rt: &R,
+    turnstile: &Turnstile<Tally>,
+    pass: &mut Pass<Tally>,
+    actor: u32,
+    number: u32,
+) -> Result<(), AllocError>
+    requires pass { IsPassOf turnstile.now pass.old }
+    requires actor { (known pass.old).actor ≡ actor }
+    ensures pass { IsPassOf turnstile.now pass.new }
+    ensures ok { OnOk result (Adds (known pass.old) (known pass.new) ((actor, number) ∷ [])) }
+    ensures err { OnErr result (Adds (known pass.old) (known pass.new) []) }
+{
+    let mut turn = turnstile.enter(rt, pass);
+    let tally = turn.value();
+    let added = tally.pairs.push((actor, number));
+    turn.leave();
+    match added {
+        Ok(()) => Ok(()),
+        Err(_) => Err(AllocError),
+    }
+}
+
+/// Adds the numbers below `turns` in order, in a turn each. The error is want of memory, and then those before it were added.
+pub fn count<R: Wait>(
+    rt: &R,
+    turnstile: &Turnstile<Tally>,
+    pass: &mut Pass<Tally>,
+    actor: u32,
+    turns: u32,
+) -> Result<(), AllocError>
+    requires pass { IsPassOf turnstile.now pass.old }
+    requires actor { (known pass.old).actor ≡ actor }
+    ensures pass { IsPassOf turnstile.now pass.new }
+    ensures same { ((known pass.new).actor ≡ actor) × ((known pass.new).first ≡ (known pass.old).first) × ((known pass.new).made ≡ (known pass.old).made) × ((known pass.new).joined ≡ (known pass.old).joined) }
+    ensures ok { OnOk result ((known pass.new).own ≡ (known pass.old).own ++ numbered actor turns) }
+    ensures err { OnErr result ((added : ℕ) × ((known pass.new).own ≡ (known pass.old).own ++ numbered actor added)) }
+{
+    for number in 0..turns {
+        add(rt, turnstile, pass, actor, number)?;
+    }
+    Ok(())
+}

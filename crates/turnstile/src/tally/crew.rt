@@ -1,0 +1,125 @@
+//! Workers that add to one list in threads of their own.
+ghost use Rattle.std.specs.Prelude.{◌≡◌, ◌<◌, ◌≤◌, [], true, length, vec_len, vec_capacity, IfOk};
+ghost use Rattle.turnstile.specs.Passes.{known, IsPassOf, first_known, AllJoined};
+ghost use Rattle.turnstile.specs.Counting.{IsGathered};
+ghost use Rattle.turnstile.specs.Crew.{IsFresh, IsBack, AreFresh, AreBack, Leads, IsManned, AreCounted};
+
+use crate::lock::Turnstile;
+use crate::pass::Pass;
+use crate::tally::{Tally, count};
+use std::alloc::{AllocError, Global};
+use std::sync::Wait;
+use std::thread;
+use std::thread::Threads;
+
+/// One thread's pass and number, and whether it has added all that it was to add.
+pub struct Worker {
+    pub pass: Pass<Tally>,
+    pub actor: u32,
+    pub done: bool,
+}
+
+fn work<R: Wait>(rt: &R, turnstile: &Turnstile<Tally>, worker: &mut Worker, turns: u32)
+    requires { IsFresh turnstile.now worker.old }
+    ensures { IsBack turnstile.now turns worker.new × (worker.new.actor ≡ worker.old.actor) }
+{
+    let actor = worker.actor;
+    let counted = count(rt, turnstile, &mut worker.pass, actor, turns);
+    worker.done = counted.is_ok();
+}
+
+fn run<R: Threads + Wait + Sync>(
+    rt: &R,
+    turnstile: &Turnstile<Tally>,
+    workers: &mut [Worker],
+    turns: u32,
+)
+    requires some { 0 < length workers.old }
+    requires passes { AreFresh turnstile.now workers.old }
+    ensures passes { AreBack turnstile.now turns workers.new }
+{
+    let threads = workers.len();
+    thread::for_each_mut(
+        rt,
+        workers,
+        threads,
+        &|_, worker| { work(rt, turnstile, worker, turns) },
+    );
+}
+
+fn split_all(
+    turnstile: &Turnstile<Tally>,
+    first: &mut Pass<Tally>,
+    workers: &mut Vec<Worker>,
+    actors: u32,
+)
+    requires pass { IsPassOf turnstile.now first.old × (known first.old ≡ first_known actors tt) }
+    requires room { (workers.old.items ≡ []) × (actors ≤ vec_capacity workers.old) }
+    ensures pass { IsPassOf turnstile.now first.new × Leads actors (known first.new) × ((known first.new).joined ≡ []) }
+    ensures crew { (vec_len workers.new ≡ actors) × AreFresh turnstile.now workers.new.items × IsManned (known first.new) actors }
+{
+    for actor in 0..actors {
+        let pass = turnstile.split(first, actor);
+        workers.push_reserved(Worker {
+            pass,
+            actor,
+            done: false,
+        });
+    }
+}
+
+/// Says whether all were done.
+fn join_all(
+    turnstile: &Turnstile<Tally>,
+    first: &mut Pass<Tally>,
+    mut workers: Vec<Worker>,
+    _turns: u32,
+) -> bool
+    requires pass { IsPassOf turnstile.now first.old × Leads (vec_len workers) (known first.old) × ((known first.old).joined ≡ []) }
+    requires crew { AreBack turnstile.now _turns workers.items × IsManned (known first.old) (vec_len workers) }
+    ensures pass { IsPassOf turnstile.now first.new × Leads (vec_len workers) (known first.new) }
+    ensures all { AllJoined (known first.new) }
+    ensures counted { AreCounted (vec_len workers) _turns result (known first.new) }
+{
+    let mut all = true;
+    while let Some(worker) = workers.pop() {
+        let Worker {
+            pass,
+            actor: _,
+            done,
+        } = worker;
+        turnstile.join(first, pass);
+        all &= done;
+    }
+    workers.destroy_empty();
+    all
+}
+
+/// Each of so many threads, numbered from 0, adds the numbers below `turns` in order. The error is want of memory alone.
+pub fn gathered<R: Threads + Wait + Sync>(
+    rt: &R,
+    alloc: Global,
+    actors: u32,
+    turns: u32,
+) -> Result<Tally, AllocError>
+    requires { 0 < actors }
+    ensures { IfOk result (λ tally. IsGathered actors turns tally.pairs.items) }
+{
+    let mut workers: Vec<Worker> = Vec::new(alloc);
+    if workers.reserve(actors as usize).is_err() {
+        workers.destroy_empty();
+        return Err(AllocError);
+    }
+    let (turnstile, mut first) = match Turnstile::new(alloc, Tally::new(alloc), actors) {
+        Ok(pair) => pair,
+        Err(_) => {
+            workers.destroy_empty();
+            return Err(AllocError);
+        }
+    };
+    split_all(&turnstile, &mut first, &mut workers, actors);
+    run(rt, &turnstile, workers.as_mut_slice(), turns);
+    let all = join_all(&turnstile, &mut first, workers, turns);
+    let tally = turnstile.close(first);
+    if all { Ok(tally) } else { Err(AllocError) }
+}
