@@ -7,12 +7,14 @@ mod boxed;
 mod kind;
 mod list;
 mod name;
+mod record;
 mod text;
 
 pub use boxed::Boxed;
 pub use kind::{Field, Kind, RecordType, TypeFault};
 pub use list::{Copied, Iter, List};
 pub use name::{Name, NameFault};
+pub use record::{Datum, Loose, Member, Payload, PayloadFault, Record};
 pub use text::Text;
 
 /// The most bytes of a name.

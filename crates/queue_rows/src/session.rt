@@ -1,0 +1,43 @@
+// What a session keeps from statement to statement.
+use crate::MsgRow;
+use payload_records::{Copied, Name};
+use place_keys::Place;
+use std::alloc::AllocError;
+
+/// What a session has done and not committed.
+#[derive(Drop)]
+pub enum Pending {
+    /// It adds the message.
+    Add(MsgRow),
+    /// It removes the slot.
+    Remove {
+        /// The message.
+        id: u64,
+        /// The slot.
+        slot: u32,
+    },
+}
+
+/// Where a session stands in a queue: at the last message that it was given there.
+#[derive(Drop)]
+pub struct Position {
+    /// The queue.
+    pub queue: Name,
+    /// The consumer for whom it was given.
+    pub consumer: Option<Name>,
+    /// The message's place.
+    pub place: Place,
+    /// The message's group.
+    pub group: u64,
+}
+
+impl Copied for Position {
+    fn copied(&self) -> Result<Self, AllocError> {
+        Ok(Position {
+            queue: self.queue.copied()?,
+            consumer: Copied::copied(&self.consumer)?,
+            place: self.place.copied()?,
+            group: self.group,
+        })
+    }
+}

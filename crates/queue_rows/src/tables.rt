@@ -1,0 +1,49 @@
+// The tables of a database, as plain lists.
+ghost use Rattle.std.specs.Prelude.{◌≡◌};
+ghost use Rattle.queue_rows.specs.Tables.{empty_tables};
+
+use crate::{MsgRow, QueueRow, ScheduleRow, SeenRow, SubRow, TableRow};
+use payload_records::List;
+use std::alloc::Global;
+
+/// What a database holds.
+#[derive(Drop)]
+pub struct Tables {
+    /// The queue tables.
+    pub tables: List<TableRow>,
+    /// The queues.
+    pub queues: List<QueueRow>,
+    /// The subscribers of all queues, in the order in which they were added.
+    pub subs: List<SubRow>,
+    /// The schedules.
+    pub schedules: List<ScheduleRow>,
+    /// The messages, in the order of their commits.
+    pub messages: List<MsgRow>,
+    /// What has arrived from the other database.
+    pub seen: List<SeenRow>,
+    /// One above the greatest id that was committed.
+    pub next: u64,
+    /// One above the greatest group that was committed.
+    pub transaction: u64,
+    /// The moment of the latest commit.
+    pub latest: u64,
+}
+
+impl Tables {
+    /// The tables of a database in which nothing was committed yet. It takes no memory.
+    pub fn new(alloc: Global) -> Tables
+        ensures { result ≡ empty_tables }
+    {
+        Tables {
+            tables: List::new(alloc),
+            queues: List::new(alloc),
+            subs: List::new(alloc),
+            schedules: List::new(alloc),
+            messages: List::new(alloc),
+            seen: List::new(alloc),
+            next: 1,
+            transaction: 1,
+            latest: 0,
+        }
+    }
+}

@@ -1,0 +1,24 @@
+// What conditions are judged on.
+use payload_records::{Copied, Record, Text};
+use std::alloc::AllocError;
+
+/// What a condition may ask of a message.
+#[derive(Drop)]
+pub struct Facts {
+    /// The message's priority; a smaller number is the more urgent.
+    pub priority: i64,
+    /// The correlation, where the message has one.
+    pub corr: Option<Text>,
+    /// The payload.
+    pub cells: Record,
+}
+
+impl Copied for Facts {
+    fn copied(&self) -> Result<Self, AllocError> {
+        Ok(Facts {
+            priority: self.priority,
+            corr: Copied::copied(&self.corr)?,
+            cells: self.cells.copied()?,
+        })
+    }
+}

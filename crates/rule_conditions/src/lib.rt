@@ -1,0 +1,8 @@
+//! Conditions over messages: what the rules of subscribers and the conditions of dequeues are made of.
+#![tactic(auto)]
+
+mod condition;
+mod facts;
+
+pub use condition::{Atom, Cmp, Cond, Product, Sum, Term};
+pub use facts::Facts;
