@@ -1,0 +1,55 @@
+-- The statements, and what of their members, that have a meaning so far. A script with any other statement is refused
+-- at that line, so none of them is ever called.
+use Rattle.std.specs.Prelude.{◌≡◌, ℕ, false, Option, None}
+use Rattle.queue_rows.specs.declared.statement.Statement.{Statement}
+use Rattle.queue_rows.specs.declared.statement.Statement.TheVariants as statements
+use Rattle.queue_rows.specs.declared.statement.Admin.{Admin}
+use Rattle.queue_rows.specs.declared.statement.Admin.TheVariants as asks
+use Rattle.queue_rows.specs.declared.statement.Enqueue.{Enqueue}
+use Rattle.queue_rows.specs.declared.statement.Dequeue.{Dequeue}
+use Rattle.queue_rows.specs.declared.statement.Visibility.TheVariants.{Immediate}
+use Rattle.queue_rows.specs.declared.statement.Mode.TheVariants.{Remove}
+use Rattle.queue_rows.specs.declared.statement.Navigation.TheVariants.{Next}
+
+-- a message goes in at once, for one consumer, with neither a delay nor an end, and at its place
+pub record IsPlainEnqueue (ask : Enqueue) : Type 0 where
+  pub visibility : ask.visibility ≡ Immediate
+  pub delay : ask.delay ≡ 0
+  pub expiration : ask.expiration ≡ None
+  pub recipients : ask.recipients ≡ None
+  pub exception_queue : ask.exception_queue ≡ None
+  pub before : ask.before ≡ None
+  pub top : ask.top ≡ false
+
+-- a message is taken out at once, by the one consumer, without waiting, whichever comes next
+pub record IsPlainDequeue (ask : Dequeue) : Type 0 where
+  pub consumer : ask.consumer ≡ None
+  pub mode : ask.mode ≡ Remove
+  pub navigation : ask.navigation ≡ Next
+  pub visibility : ask.visibility ≡ Immediate
+  pub wait : ask.wait ≡ 0
+  pub msgid : ask.msgid ≡ None
+  pub corr : ask.corr ≡ None
+  pub condition : ask.condition ≡ None
+
+abbrev pub IsBuiltAdmin : Admin → Type 0
+IsBuiltAdmin (asks.CreateTable table fields sort multi grouped) = (multi ≡ false) × (grouped ≡ false)
+IsBuiltAdmin (asks.DropTable table) = ⊥
+IsBuiltAdmin (asks.CreateQueue queue table kind max_retries retry_delay retention) = Unit {0}
+IsBuiltAdmin (asks.DropQueue queue) = ⊥
+IsBuiltAdmin (asks.StartQueue queue enqueue dequeue) = Unit {0}
+IsBuiltAdmin (asks.StopQueue queue enqueue dequeue) = ⊥
+IsBuiltAdmin (asks.AddSubscriber queue name address rule) = ⊥
+IsBuiltAdmin (asks.RemoveSubscriber queue name) = ⊥
+IsBuiltAdmin (asks.Schedule queue to start duration period latency) = ⊥
+IsBuiltAdmin (asks.Unschedule queue to) = ⊥
+IsBuiltAdmin (asks.EnableSchedule queue to) = ⊥
+IsBuiltAdmin (asks.DisableSchedule queue to) = ⊥
+
+abbrev pub IsBuilt : Statement → Type 0
+IsBuilt (statements.Admin ask) = IsBuiltAdmin ask
+IsBuilt (statements.Enqueue ask) = IsPlainEnqueue ask
+IsBuilt (statements.Dequeue ask) = IsPlainDequeue ask
+IsBuilt (statements.Listen ask) = ⊥
+IsBuilt statements.Commit = ⊥
+IsBuilt statements.Rollback = ⊥
