@@ -1,0 +1,4 @@
+pub mod Causes
+pub mod Disk
+pub mod Kept
+pub mod Left

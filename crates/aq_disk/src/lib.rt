@@ -1,0 +1,8 @@
+//! Disks: bytes at places, a sync after which a crash loses nothing, and what a crash may leave at each call.
+#![tactic(auto)]
+
+mod device;
+mod kept;
+
+pub use device::{Disk, Failed, LENGTH_LIMIT};
+pub use kept::Fill;
