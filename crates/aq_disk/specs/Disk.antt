@@ -1,5 +1,5 @@
 -- What the calls of a disk do to its bytes, and what a crash may leave of them.
-use Rattle.std.specs.Prelude.{◌≡◌, ◌↔◌, ℕ, ◌+◌, ◌-◌, ◌^◌, ◌≤◌, min, max, List, ◌++◌, length, take, drop, Option, Some}
+use Rattle.std.specs.Prelude.{◌≡◌, ◌↔◌, ℕ, ◌+◌, ◌-◌, ◌^◌, ◌≤◌, min, max, List, ◌++◌, length, take, drop, Option}
 use Rattle.std.specs.Option.{ForSome}
 
 -- the bytes with others written from a place on

@@ -1,6 +1,7 @@
 -- What kept calls make of bytes, and what a crash may leave of them.
-use Rattle.std.specs.Prelude.{◌≡◌, ℕ, ◌+◌, ◌-◌, max, Bool, true, false, ◌&&◌, nat_le, List, [], ◌∷◌, ◌++◌, length, take, replicate, fold}
-use Rattle.std.specs.List.{take_while, after_last}
+use Rattle.std.specs.Prelude.{◌≡◌, ℕ, ◌+◌, ◌-◌, max, Bool, true, false, ◌&&◌, nat_le, nat_lt, List, [], ◌∷◌, ◌++◌, length, take, replicate, fold, Vec}
+use Rattle.std.specs.List.{before_first, after_last}
+use Rattle.std.specs.declared.alloc.Global.{Global}
 use Rattle.aq_disk.specs.Disk.{after_write, Torn}
 use Rattle.aq_disk.specs.declared.kept.Kept.{Kept}
 use Rattle.aq_disk.specs.declared.kept.Step.{Step}
@@ -31,7 +32,7 @@ is_sync kept = step_is_sync kept.step
 
 -- the calls up to a number
 abbrev pub up_to : ℕ → List Kept → List Kept
-up_to call kept = take_while (λ k. nat_le k.call call) kept
+up_to call kept = before_first (λ k. nat_lt call k.call) kept
 
 -- the calls after the last sync
 abbrev pub since_sync : List Kept → List Kept
@@ -75,3 +76,9 @@ length_after n Sync = n
 abbrev pub in_place : ℕ → List Kept → Bool
 in_place n [] = true
 in_place n (kept ∷ rest) = step_in_place n kept.step && in_place (length_after n kept.step) rest
+
+-- the calls with a write more
+pub record AddsWrite (old new : List Kept) (call at : ℕ) (from : List ℕ) : Type 0 where
+  pub bytes : Vec ℕ Global
+  pub as_written : bytes.items ≡ from
+  pub kept : new ≡ old ++ record { call = call; step = Write at bytes } ∷ []

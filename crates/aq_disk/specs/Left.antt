@@ -1,8 +1,8 @@
 -- What a fill gives is left by a crash.
-use Rattle.std.proofs.Common.{◌≡◌, ℕ, ◌+◌, ◌-◌, ◌≤◌, max, Some, Bool, true, false, cond, ◌&&◌, List, [], ◌∷◌, ◌++◌, length, take, drop, replicate, refl, sym, ◌∙◌, ap, subst, arith, append_assoc, length-append, length-take, length-drop, take-append-drop}
-use Rattle.std.specs.Prelude.{nat_le, fold}
-use Rattle.std.specs.List.{list_all, prefix_len}
-use Rattle.std.proofs.lemmas.List.{take_at, drop_at, length-replicate, take_all, drop_all}
+use Rattle.std.proofs.Common.{◌≡◌, ℕ, ◌+◌, ◌-◌, ◌≤◌, max, Some, Bool, true, false, ◌&&◌, List, [], ◌∷◌, ◌++◌, length, take, drop, replicate, refl, sym, ◌∙◌, ap, subst, arith, append_assoc, length-append, length-take, length-drop, take-append-drop}
+use Rattle.std.specs.Prelude.{nat_le, nat_lt}
+use Rattle.std.specs.List.{list_all, position_or_len}
+use Rattle.std.proofs.lemmas.List.{take_at, drop_at, length-replicate, take_all}
 use Rattle.std.proofs.lemmas.Grind.{common_steps}
 use Rattle.aq_disk.specs.Disk.{after_write, Torn}
 use Rattle.aq_disk.specs.Kept.{filled, step_filled, all_filled, Tears, IsLeft, IsImageAfter, image_after, step_in_place, length_after, in_place, up_to, since_sync, until_sync, synced}
@@ -68,10 +68,10 @@ old_step : (bytes : List ℕ) (step : Step) → step_filled Old bytes step ≡ b
 old_step bytes Sync = refl
 old_step bytes (Write at new) = refl
 
-rest_in_place : (n : ℕ) (kept : Kept) (rest : List Kept) → in_place n (kept ∷ rest) ≡ true → in_place (length_after n kept.step) rest ≡ true
+pub rest_in_place : (n : ℕ) (kept : Kept) (rest : List Kept) → in_place n (kept ∷ rest) ≡ true → in_place (length_after n kept.step) rest ≡ true
 rest_in_place n kept rest h = and_right (step_in_place n kept.step) (in_place (length_after n kept.step) rest) h
 
-first_in_place : (n : ℕ) (kept : Kept) (rest : List Kept) → in_place n (kept ∷ rest) ≡ true → step_in_place n kept.step ≡ true
+pub first_in_place : (n : ℕ) (kept : Kept) (rest : List Kept) → in_place n (kept ∷ rest) ≡ true → step_in_place n kept.step ≡ true
 first_in_place n kept rest h = and_left (step_in_place n kept.step) (in_place (length_after n kept.step) rest) h
 
 left_old : (bytes : List ℕ) (kept : List Kept) → IsLeft bytes kept (all_filled Old bytes kept)
@@ -89,7 +89,7 @@ left_new bytes (k ∷ rest) h =
       step_filled New bytes k.step,
       tears_new bytes k.step first,
       left_new (step_filled New bytes k.step) rest
-      (subst (λ (n : ℕ). in_place n rest ≡ true) (sym (length-new bytes k.step first)) (rest_in_place (length bytes) k rest h)),
+          (subst (λ (n : ℕ). in_place n rest ≡ true) (sym (length-new bytes k.step first)) (rest_in_place (length bytes) k rest h)),
     )
 
 left_byte : (byte : ℕ) (bytes : List ℕ) (kept : List Kept) → in_place (length bytes) kept ≡ true → IsLeft bytes kept (all_filled (Byte byte) bytes kept)
@@ -99,7 +99,7 @@ left_byte byte bytes (k ∷ rest) h =
       step_filled (Byte byte) bytes k.step,
       tears_byte byte bytes k.step first,
       left_byte byte (step_filled (Byte byte) bytes k.step) rest
-      (subst (λ (n : ℕ). in_place n rest ≡ true) (sym (length-byte byte bytes k.step first)) (rest_in_place (length bytes) k rest h)),
+          (subst (λ (n : ℕ). in_place n rest ≡ true) (sym (length-byte byte bytes k.step first)) (rest_in_place (length bytes) k rest h)),
     )
 
 pub left_filled : (fill : Fill) (bytes : List ℕ) (kept : List Kept) → in_place (length bytes) kept ≡ true → IsLeft bytes kept (all_filled fill bytes kept)
@@ -145,22 +145,22 @@ image_new start kept = sym (all_filled-append New start (until_sync kept) (since
 
 pub up_to_in_place : (n call : ℕ) (kept : List Kept) → in_place n kept ≡ true → in_place n (up_to call kept) ≡ true
 up_to_in_place n call kept h =
-    let many = prefix_len (λ (k : Kept). nat_le k.call call) kept in
+    let many = position_or_len (λ (k : Kept). nat_lt call k.call) kept in
     front_in_place n (take many kept) (drop many kept) (subst (λ (l : List Kept). in_place n l ≡ true) (sym (take-append-drop many kept)) h)
 
-le_true_to : (a b c : ℕ) → nat_le a b ≡ true → b ≤ c → nat_le a c ≡ true
-le_true_to a b c h le = grind (arith, common_steps)
+not_past : (a b c : ℕ) → nat_le a b ≡ true → b ≤ c → nat_lt c a ≡ false
+not_past a b c h le = grind (arith, common_steps)
 
-all_numbered : (calls call : ℕ) (kept : List Kept) → list_all (λ k. nat_le k.call calls) kept ≡ true → calls ≤ call → prefix_len (λ k. nat_le k.call call) kept ≡ length kept
+all_numbered : (calls call : ℕ) (kept : List Kept) → list_all (λ k. nat_le k.call calls) kept ≡ true → calls ≤ call → position_or_len (λ k. nat_lt call k.call) kept ≡ length kept
 all_numbered calls call [] h le = refl
 all_numbered calls call (k ∷ rest) h le =
-    let here = le_true_to k.call calls call (and_left (nat_le k.call calls) (list_all (λ k. nat_le k.call calls) rest) h) le in
+    let here = not_past k.call calls call (and_left (nat_le k.call calls) (list_all (λ k. nat_le k.call calls) rest) h) le in
     let there = all_numbered calls call rest (and_right (nat_le k.call calls) (list_all (λ k. nat_le k.call calls) rest) h) le in
     rw here (omega (arith, there))
 
 -- all calls are numbered up to the last number
 pub up_to_all : (calls call : ℕ) (kept : List Kept) → list_all (λ k. nat_le k.call calls) kept ≡ true → calls ≤ call → up_to call kept ≡ kept
-up_to_all calls call kept h le = take_all (prefix_len (λ k. nat_le k.call call) kept) kept (omega (arith, all_numbered calls call kept h le))
+up_to_all calls call kept h le = take_all (position_or_len (λ k. nat_lt call k.call) kept) kept (omega (arith, all_numbered calls call kept h le))
 
 -- what is read is an image of the last call number
 pub left_read : (start : List ℕ) (kept : List Kept) (calls : ℕ) (bytes read : List ℕ) → in_place (length start) kept ≡ true → list_all (λ k. nat_le k.call calls) kept ≡ true

@@ -1,4 +1,5 @@
 pub mod Causes
 pub mod Disk
+pub mod Held
 pub mod Kept
 pub mod Left

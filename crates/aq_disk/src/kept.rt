@@ -1,5 +1,8 @@
 // The calls that a disk in memory keeps.
-use std::alloc::Global;
+ghost use Rattle.std.specs.Prelude.{◌≡◌, OnOk};
+
+use crate::bytes::overwrite;
+use std::alloc::{AllocError, Global};
 
 /// What a kept call did.
 #[derive(Drop)]
@@ -26,4 +29,32 @@ pub enum Fill {
     New,
     /// This byte.
     Byte(u8),
+}
+
+impl Kept {
+    ghost use Rattle.aq_disk.specs.Kept.{filled, is_sync};
+
+    /// Does the call to bytes, with a write's range as the fill says.
+    pub fn fill_in(&self, fill: Fill, bytes: &mut Vec<u8>) -> Result<(), AllocError>
+        ensures { OnOk result (bytes.new.items ≡ filled fill bytes.old.items self.now) }
+    {
+        let Step::Write(at, new) = &self.step else {
+            return Ok(());
+        };
+        match fill {
+            Fill::Old => Ok(()),
+            Fill::New => overwrite(bytes, *at as usize, new),
+            Fill::Byte(byte) => {
+                let torn = vec![in bytes.allocator().clone()?; byte; new.len()]?;
+                overwrite(bytes, *at as usize, &torn)
+            }
+        }
+    }
+
+    /// Whether it is a sync.
+    pub fn is_sync(&self) -> bool
+        ensures { result ≡ is_sync self.now }
+    {
+        matches!(self.step, Step::Sync)
+    }
 }

@@ -1,8 +1,11 @@
 //! Disks: bytes at places, a sync after which a crash loses nothing, and what a crash may leave at each call.
 #![tactic(auto)]
 
+mod bytes;
 mod device;
+mod held;
 mod kept;
+mod replay;
 
 pub use device::{Disk, Failed, LENGTH_LIMIT};
 pub use kept::Fill;

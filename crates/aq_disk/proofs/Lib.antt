@@ -1,0 +1,2 @@
+mod HeldSteps
+mod Pushed
