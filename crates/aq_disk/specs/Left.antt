@@ -1,5 +1,5 @@
 -- What a fill gives is left by a crash.
-use Rattle.std.proofs.Common.{◌≡◌, ℕ, ◌+◌, ◌-◌, ◌≤◌, max, Some, Bool, true, false, ◌&&◌, List, [], ◌∷◌, ◌++◌, length, take, drop, replicate, refl, sym, ◌∙◌, ap, subst, arith, append_assoc, length-append, length-take, length-drop, take-append-drop}
+use Rattle.std.proofs.Common.{◌≡◌, ℕ, ◌+◌, ◌-◌, ◌^◌, ◌≤◌, max, Some, Bool, true, false, ◌&&◌, List, [], ◌∷◌, ◌++◌, length, take, drop, replicate, refl, sym, ◌∙◌, ap, subst, arith, append_assoc, length-append, length-take, length-drop, take-append-drop}
 use Rattle.std.specs.Prelude.{nat_le, nat_lt}
 use Rattle.std.specs.List.{list_all, position_or_len}
 use Rattle.std.proofs.lemmas.List.{take_at, drop_at, length-replicate, take_all}
@@ -169,3 +169,6 @@ left_read start kept calls bytes read placed numbered is same =
     let all : up_to calls kept ≡ kept = up_to_all calls calls kept numbered (omega arith) in
     let read_is : read ≡ image_after New start kept = cc (image_new start kept) in
     subst (λ (l : List Kept). IsImageAfter start l read) (sym all) (subst (λ (b : List ℕ). IsImageAfter start kept b) (sym read_is) (left_image New start kept placed))
+
+pub told_in_limit : (bytes told : List ℕ) → length bytes ≤ 2 ^ 62 → Some bytes ≡ Some told → length told ≤ 2 ^ 62
+told_in_limit bytes told le same = let is : bytes ≡ told = cc in subst (λ (l : List ℕ). length l ≤ 2 ^ 62) is le

@@ -3,3 +3,4 @@ pub mod Disk
 pub mod Held
 pub mod Kept
 pub mod Left
+pub mod Memory

@@ -5,7 +5,9 @@ mod bytes;
 mod device;
 mod held;
 mod kept;
+mod memory;
 mod replay;
 
 pub use device::{Disk, Failed, LENGTH_LIMIT};
 pub use kept::Fill;
+pub use memory::MemoryDisk;
