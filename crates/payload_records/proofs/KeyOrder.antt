@@ -1,5 +1,5 @@
--- The fields of an object stand in order, since its keys do.
-use Rattle.std.proofs.Common.{◌≡◌, ℕ, List, [], ◌∷◌, Option, Some, None, option_map, option_and_then, Bool, true, ◌&&◌, cond, String, Global, Less, string_bytes, string_cmp, refl, sym, ap, ◌∙◌}
+-- The keys of an object ascend, and so do the names of its fields and the keys of its members.
+use Rattle.std.proofs.Common.{◌≡◌, ℕ, List, [], ◌∷◌, map, Option, Some, None, option_map, option_and_then, Bool, true, cond, String, Global, string_bytes, string_cmp, refl, ap, ◌∙◌}
 use Rattle.std.specs.List.Sorted.{IsStrictlySortedBy}
 use Rattle.std.specs.Map.{keys_of}
 use Rattle.serde_json.specs.Data.{Data, Members, member}
@@ -7,12 +7,27 @@ use Rattle.serde_json.specs.View.{view, members_view}
 use Rattle.serde_json.specs.declared.value.Value.{Value}
 use Rattle.payload_records.specs.Kind.{kind_of, field_of, fields_of}
 use Rattle.payload_records.specs.Name.{is_name}
-use Rattle.payload_records.specs.Order.{comes_before, is_in_order}
+use Rattle.payload_records.specs.Order.{is_below_first, are_ascending}
+use Rattle.payload_records.specs.Payload.{members_of}
 use Rattle.payload_records.specs.declared.kind.Kind.{Kind}
 use Rattle.payload_records.specs.declared.kind.Field.{Field}
 
 abbrev pub Entry : Type 0
 Entry = String Global × Value
+
+-- the keys of an object as bytes
+abbrev pub key_bytes : List Entry → List (List ℕ)
+key_bytes es = map (λ e. string_bytes e.0) es
+
+below_first : (e : Entry) (es : List Entry) → IsStrictlySortedBy string_cmp (keys_of (e ∷ es)) → is_below_first (string_bytes e.0) (key_bytes es) ≡ true
+unfolding IsStrictlySortedBy
+below_first e [] sorted = refl
+below_first e (next ∷ es) sorted = rw sorted.0.0 refl
+
+pub keys_ascend : (es : List Entry) → IsStrictlySortedBy string_cmp (keys_of es) → are_ascending (key_bytes es) ≡ true
+unfolding IsStrictlySortedBy
+keys_ascend [] sorted = refl
+keys_ascend (e ∷ es) sorted = rw (below_first e es sorted) (keys_ascend es sorted.1)
 
 -- a field and the fields after it, out of an object that gave both
 parts : (first : Option Field) (rest : Option (List Field)) (all : List Field) → option_and_then (λ f. option_map (λ fs. f ∷ fs) rest) first ≡ Some all
@@ -25,24 +40,12 @@ named_by : (named : Bool) (kind : Option Kind) (key : List ℕ) (f : Field) → 
 named_by true (Some k) key f e = cc
 named_by _ _ key f e = cc
 
-named : (key : List ℕ) (d : Data) (f : Field) → field_of key d ≡ Some f → f.name ≡ key
-named key d f e = named_by (is_name key) (kind_of d) key f e
-
-first_named : (e : Entry) (es : List Entry) (f : Field) (fs : List Field) → fields_of (members_view (e ∷ es)) ≡ Some (f ∷ fs) → f.name ≡ string_bytes e.0
-first_named e es f fs read =
-    let p = parts (field_of (string_bytes e.0) (view e.1)) (fields_of (members_view es)) (f ∷ fs) read in
-    let same : f ≡ p.0 = cc in
-    ap (λ g. g.name) same ∙ named (string_bytes e.0) (view e.1) p.0 p.2
-
-comes_first : (f : Field) (e : Entry) (es : List Entry) (fs : List Field) → f.name ≡ string_bytes e.0 → fields_of (members_view es) ≡ Some fs → IsStrictlySortedBy string_cmp (keys_of (e ∷ es)) → comes_before f fs ≡ true
-unfolding IsStrictlySortedBy
-comes_first f e es [] n read sorted = refl
-comes_first f e [] (g ∷ gs) n read sorted = cc
-comes_first f e (e' ∷ es) (g ∷ gs) n read sorted = rw (n, first_named e' es g gs read, sorted.0.0)
-
-pub in_order_of_keys : (es : List Entry) (fs : List Field) → fields_of (members_view es) ≡ Some fs → IsStrictlySortedBy string_cmp (keys_of es) → is_in_order fs ≡ true
-unfolding IsStrictlySortedBy
-in_order_of_keys [] fs read sorted = let e : fs ≡ [] = cc in rw e
-in_order_of_keys (e ∷ es) fs read sorted =
+pub names_are_keys : (es : List Entry) (fs : List Field) → fields_of (members_view es) ≡ Some fs → map (λ f. f.name) fs ≡ key_bytes es
+names_are_keys [] fs read = let e : fs ≡ [] = cc in rw e
+names_are_keys (e ∷ es) fs read =
     let p = parts (field_of (string_bytes e.0) (view e.1)) (fields_of (members_view es)) fs read in
-    rw (p.4, comes_first p.0 e es p.1 (named (string_bytes e.0) (view e.1) p.0 p.2) p.3 sorted) (in_order_of_keys es p.1 p.3 sorted.1)
+    rw (p.4, named_by (is_name (string_bytes e.0)) (kind_of (view e.1)) (string_bytes e.0) p.0 p.2, names_are_keys es p.1 p.3)
+
+pub members_have_keys : (es : List Entry) → map (λ m. m.key) (members_of (members_view es)) ≡ key_bytes es
+members_have_keys [] = refl
+members_have_keys (e ∷ es) = ap (λ keys. string_bytes e.0 ∷ keys) (members_have_keys es)

@@ -20,7 +20,7 @@ pub enum Kind {
 }
 
 /// A field of a record type.
-#[derive(Drop)]
+#[derive(Debug, PartialEq, Eq, Drop)]
 pub struct Field {
     /// Its name, which no other field of the type has.
     pub name: Name,
@@ -30,7 +30,7 @@ pub struct Field {
 
 /// The type of records, which contracts see as the list of its fields. They always stand in byte
 /// order of their names, which are distinct.
-#[derive(Drop)]
+#[derive(Debug, Drop)]
 pub struct RecordType {
     fields: List<Field>,
 }

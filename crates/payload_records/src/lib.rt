@@ -7,6 +7,7 @@ mod boxed;
 mod kind;
 mod list;
 mod name;
+mod payload;
 mod record;
 mod text;
 
@@ -14,7 +15,8 @@ pub use boxed::Boxed;
 pub use kind::{Field, Kind, RecordType, TypeFault};
 pub use list::{Copied, Iter, List};
 pub use name::{Name, NameFault};
-pub use record::{Datum, Loose, Member, Payload, PayloadFault, Record};
+pub use payload::{Loose, Member, Payload};
+pub use record::{Datum, PayloadFault, Record};
 pub use text::Text;
 
 /// The most bytes of a name.

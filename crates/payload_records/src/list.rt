@@ -18,7 +18,7 @@ pub trait Copied: Sized {
 }
 
 /// A list of values in order. How it keeps them is its own affair.
-#[derive(Drop)]
+#[derive(Debug, Drop)]
 pub struct List<T> {
     items: Vec<T>,
 }

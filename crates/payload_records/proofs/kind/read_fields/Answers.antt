@@ -4,7 +4,7 @@ use Rattle.std.specs.Map.Iter.{deref_pair}
 use Rattle.serde_json.specs.View.{view, members_view}
 use Rattle.payload_records.specs.Kind.{fields_of}
 use Rattle.payload_records.proofs.Members.{onto_fields, fields_on}
-use Rattle.payload_records.proofs.KeyOrder.{in_order_of_keys}
+use Rattle.payload_records.proofs.KeyOrder.{keys_ascend, names_are_keys}
 use Rattle.payload_records.proofs.kind.read_fields.Goals as goal
 
 pub loop-key-preserved : goal.loop-key-preserved
@@ -17,4 +17,4 @@ pub returns-clause-in_order : goal.returns-clause-in_order
 returns-clause-in_order c =
     let done : c.loop-key.key-iterator ≡ [] = rest_all deref_pair c.loop-key.key-iterator c.next.new.self c.next.result c.in-None.is c.next.ensures.steps in
     let whole : fields_of (members_view c.args.members.now.entries) ≡ Some (c.loop-key.fields ++ []) = sym c.loop-key.invariant ∙ rw done in
-    in_order_of_keys c.args.members.now.entries c.loop-key.fields (whole ∙ ap Some (append-nil c.loop-key.fields)) c.iter-key-items.ensures.ordered
+    rw (names_are_keys c.args.members.now.entries c.loop-key.fields (whole ∙ ap Some (append-nil c.loop-key.fields))) (keys_ascend c.args.members.now.entries c.iter-key-items.ensures.ordered)
