@@ -4,5 +4,5 @@
 mod place;
 mod sort_list;
 
-pub use place::Place;
+pub use place::{Place, compare};
 pub use sort_list::{Column, SortList};
