@@ -1,5 +1,5 @@
 -- What the calls of a disk do to its bytes, and what a crash may leave of them.
-use Rattle.std.specs.Prelude.{◌≡◌, ◌↔◌, ℕ, ◌+◌, ◌-◌, ◌^◌, ◌≤◌, min, max, List, ◌++◌, length, take, drop, Option}
+use Rattle.std.specs.Prelude.{◌≡◌, ◌↔◌, ℕ, ◌+◌, ◌-◌, ◌^◌, ◌≤◌, min, max, List, ◌++◌, length, take, drop, Option, Some, None}
 use Rattle.std.specs.Option.{ForSome}
 
 -- the bytes with others written from a place on
@@ -57,3 +57,7 @@ IsSettled seen images = ForSome seen (λ bytes. Only bytes images)
 -- each image of each call number from one to another has P
 abbrev pub EachImage : ℕ → ℕ → (ℕ → List ℕ → Type 0) → (List ℕ → Type 0) → Type 0
 EachImage from to images P = (call : ℕ) → from ≤ call → call ≤ to → (image : List ℕ) → images call image → P image
+
+-- what is not told is not told to be these bytes
+pub untold : (bytes : List ℕ) → None ≡ Some bytes → ⊥
+untold bytes h = cc

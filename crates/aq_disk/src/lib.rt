@@ -2,12 +2,15 @@
 #![tactic(auto)]
 
 mod bytes;
+mod counts;
 mod device;
+mod file;
 mod held;
 mod kept;
 mod memory;
 mod replay;
 
 pub use device::{Disk, Failed, LENGTH_LIMIT};
+pub use file::FileDisk;
 pub use kept::Fill;
 pub use memory::MemoryDisk;

@@ -2,6 +2,7 @@
 ghost use Rattle.std.specs.Prelude.{nat_le, IsTrue};
 ghost use Rattle.std.specs.List.{list_all};
 
+use crate::counts::Counts;
 use crate::held::Held;
 use crate::kept::Fill;
 use crate::{Disk, Failed, LENGTH_LIMIT};
@@ -12,16 +13,15 @@ use std::alloc::{AllocError, Global};
 pub struct MemoryDisk {
     alloc: Global,
     held: Held,
-    calls: u64,
-    faults: u64,
+    counts: Counts,
     failing: Vec<u64>,
     fuse: Option<u64>,
-    ghost numbered: { IsTrue (list_all (λ k. nat_le k.call calls) held.kept.items) },
+    ghost numbered: { IsTrue (list_all (λ k. nat_le k.call counts.calls) held.kept.items) },
 }
 
 impl MemoryDisk {
     ghost use Rattle.std.specs.Prelude.{◌≡◌, ◌≤◌, ◌<◌, ◌+◌, ◌-◌, ◌^◌, length, Some, IfOk, OnOk, OnErr};
-    ghost use Rattle.aq_disk.specs.Causes.{HasCause, Rose};
+    ghost use Rattle.aq_disk.specs.Causes.{HasCause};
     ghost use Rattle.aq_disk.specs.Disk.{Only, next_call, after_write};
     ghost use Rattle.aq_disk.specs.Kept.{AddsWrite};
     ghost use Rattle.aq_disk.specs.Held.{SameHeld};
@@ -46,8 +46,7 @@ impl MemoryDisk {
         Ok(MemoryDisk {
             alloc,
             held: Held::new(alloc, bytes)?,
-            calls: 0,
-            faults: 0,
+            counts: Counts::ZERO,
             failing,
             fuse,
         })
@@ -65,59 +64,46 @@ impl MemoryDisk {
 
     // Takes the next number, where there is one.
     fn count(&mut self) -> Result<(), Failed>
-        ensures number { self.new.calls ≡ next_call self.old.calls }
-        ensures ok { OnOk result (self.old.calls < self.new.calls) }
-        ensures at_end { OnErr result (self.old.calls ≡ 2 ^ 64 - 1) }
+        ensures number { self.new.counts.calls ≡ next_call self.old.counts.calls }
+        ensures ok { OnOk result (self.old.counts.calls < self.new.counts.calls) }
+        ensures at_end { OnErr result (self.old.counts.calls ≡ 2 ^ 64 - 1) }
         ensures held { self.new.held ≡ self.old.held }
-        ensures cause { HasCause self.old.faults self.new.faults result }
+        ensures cause { HasCause self.old.counts.faults self.new.counts.faults result }
     {
-        if self.calls == u64::MAX {
-            return Err(self.fail());
-        }
-        self.calls += 1;
-        Ok(())
+        self.counts.next()
     }
 
     // Fails where the call is set to fail.
     fn work(&mut self) -> Result<(), Failed>
-        ensures number { self.new.calls ≡ self.old.calls }
+        ensures number { self.new.counts.calls ≡ self.old.counts.calls }
         ensures held { self.new.held ≡ self.old.held }
-        ensures cause { HasCause self.old.faults self.new.faults result }
+        ensures cause { HasCause self.old.counts.faults self.new.counts.faults result }
     {
-        if self.failing.contains(&self.calls) || self.fuse.is_some_and(|fuse| fuse < self.calls) {
-            return Err(self.fail());
+        if self.failing.contains(&self.counts.calls)
+            || self.fuse.is_some_and(|fuse| fuse < self.counts.calls)
+        {
+            return Err(self.counts.fail());
         }
         Ok(())
-    }
-
-    // Counts a fault.
-    fn fail(&mut self) -> Failed
-        ensures number { self.new.calls ≡ self.old.calls }
-        ensures held { self.new.held ≡ self.old.held }
-        ensures later { self.old.faults ≤ self.new.faults }
-        ensures rose { Rose self.old.faults self.new.faults }
-    {
-        self.faults = self.faults.saturating_add(1);
-        Failed
     }
 
     // Writes and keeps the write, where there is room for it.
     fn write(&mut self, at: u64, from: &[u8]) -> Result<(), Failed>
         requires { at ≤ length self.old.held.bytes.items }
-        ensures number { self.new.calls ≡ self.old.calls }
+        ensures number { self.new.counts.calls ≡ self.old.counts.calls }
         ensures limit { OnOk result (at + length from.now ≤ 2 ^ 62) }
-        ensures kept { OnOk result (AddsWrite self.old.held.kept.items self.new.held.kept.items self.old.calls at from.now) }
+        ensures kept { OnOk result (AddsWrite self.old.held.kept.items self.new.held.kept.items self.old.counts.calls at from.now) }
         ensures bytes { OnOk result (self.new.held.bytes.items ≡ after_write at from.now self.old.held.bytes.items) }
         ensures start { self.new.held.start ≡ self.old.held.start }
         ensures err { OnErr result (SameHeld self.old.held self.new.held) }
-        ensures cause { HasCause self.old.faults self.new.faults result }
+        ensures cause { HasCause self.old.counts.faults self.new.counts.faults result }
     {
         if from.len() as u64 > LENGTH_LIMIT - at {
-            return Err(self.fail());
+            return Err(self.counts.fail());
         }
-        match self.held.write(self.alloc, self.calls, at, from) {
+        match self.held.write(self.alloc, self.counts.calls, at, from) {
             Ok(()) => Ok(()),
-            Err(AllocError) => Err(self.fail()),
+            Err(AllocError) => Err(self.counts.fail()),
         }
     }
 }
@@ -132,11 +118,11 @@ impl Disk for MemoryDisk {
 
     ghost is_image = { λ d call image. IsImageAfter d.held.start.items (up_to call d.held.kept.items) image };
 
-    ghost calls = { λ d. d.calls };
+    ghost calls = { λ d. d.counts.calls };
 
-    ghost faults = { λ d. d.faults };
+    ghost faults = { λ d. d.counts.faults };
 
-    ghost reads_an_image = { λ d bytes same. left_read d.held.start.items d.held.kept.items d.calls d.held.bytes.items bytes d.held.placed d.numbered d.held.as_kept same };
+    ghost reads_an_image = { λ d bytes same. left_read d.held.start.items d.held.kept.items d.counts.calls d.held.bytes.items bytes d.held.placed d.numbered d.held.as_kept same };
 
     ghost told_limit = { λ d bytes same. told_in_limit d.held.bytes.items bytes d.held.in_limit same };
 
@@ -164,17 +150,17 @@ impl Disk for MemoryDisk {
     fn sync(&mut self) -> Result<(), Failed> {
         self.count()?;
         self.work()?;
-        match self.held.sync(self.calls) {
+        match self.held.sync(self.counts.calls) {
             Ok(()) => Ok(()),
-            Err(AllocError) => Err(self.fail()),
+            Err(AllocError) => Err(self.counts.fail()),
         }
     }
 
     fn calls(&self) -> u64 {
-        self.calls
+        self.counts.calls
     }
 
     fn faults(&self) -> u64 {
-        self.faults
+        self.counts.faults
     }
 }

@@ -6,12 +6,12 @@ pub returns-in_err-work-clause-crash : goal.returns-in_err-work-clause-crash
 returns-in_err-work-clause-crash c =
     let old = c.args.self.now in
     let is : c.work.new.self.held ≡ old.held = search rules in
-    let le : old.calls ≤ c.work.new.self.calls = search rules in
-    same_images old.held c.work.new.self.held (stays_same old.held c.work.new.self.held is) old.calls c.work.new.self.calls old.numbered le
+    let le : old.counts.calls ≤ c.work.new.self.counts.calls = search rules in
+    same_images old.held c.work.new.self.held (stays_same old.held c.work.new.self.held is) old.counts.calls c.work.new.self.counts.calls old.numbered le
 
 pub returns-clause-crash : goal.returns-clause-crash
 returns-clause-crash c =
     let old = c.args.self.now in
     let is : c.work.new.self.held ≡ old.held = search rules in
-    let le : old.calls ≤ c.work.new.self.calls = search rules in
-    same_images old.held c.work.new.self.held (stays_same old.held c.work.new.self.held is) old.calls c.work.new.self.calls old.numbered le
+    let le : old.counts.calls ≤ c.work.new.self.counts.calls = search rules in
+    same_images old.held c.work.new.self.held (stays_same old.held c.work.new.self.held is) old.counts.calls c.work.new.self.counts.calls old.numbered le
