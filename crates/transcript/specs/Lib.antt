@@ -1,0 +1,6 @@
+pub mod Line
+pub mod Print
+pub mod Reply
+pub mod Text
+pub mod Told
+pub mod Word

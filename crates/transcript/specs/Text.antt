@@ -1,0 +1,37 @@
+-- The parts of a line: ids, slots, sessions and texts as JSON.
+use Rattle.std.specs.Prelude.{ℕ, ◌++◌, List, [], codes, decimal, Option, slice_get}
+use Rattle.std.specs.Option.{option_map_or}
+use Rattle.serde_json.specs.Data.{null, string}
+use Rattle.serde_json.specs.Written.{compact_text}
+use Rattle.aq_base.specs.declared.DbId.{DbId}
+use Rattle.aq_base.specs.declared.DbId.TheVariants.{Home, Away}
+use Rattle.queue_rows.specs.declared.history.SessionScript.{SessionScript}
+
+-- by this letter an id tells its database
+abbrev pub letter_of : DbId → List ℕ
+letter_of Home = codes "h"
+letter_of Away = codes "a"
+
+abbrev pub other_of : DbId → DbId
+other_of Home = Away
+other_of Away = Home
+
+-- as h7: the message of that number of a database
+abbrev pub id_text : DbId → ℕ → List ℕ
+id_text db number = letter_of db ++ decimal number
+
+-- as h7.2: a slot of that message
+abbrev pub slot_text : DbId → ℕ → ℕ → List ℕ
+slot_text db id slot = id_text db id ++ codes "." ++ decimal slot
+
+-- a text as a JSON text, in its quotes
+abbrev pub json_text : List ℕ → List ℕ
+json_text text = compact_text (string text)
+
+-- a text as a JSON text, or null
+abbrev pub json_or_null : Option (List ℕ) → List ℕ
+json_or_null text = compact_text (option_map_or string text null)
+
+-- the name of the session of that number, from 0; no text where there is no such session
+abbrev pub session_text : List SessionScript → ℕ → List ℕ
+session_text scripts session = option_map_or (λ s. s.name) (slice_get scripts session) []

@@ -1,0 +1,121 @@
+// The text of a history.
+ghost use Rattle.std.specs.Prelude.{◌≡◌, ℕ, ◌++◌, OnOk, IfOk, option_copied, slice_get, string_bytes};
+ghost use Rattle.transcript.specs.Line.{timer_lines};
+ghost use Rattle.aq_base.specs.declared.DbId.TheVariants.{Home, Away};
+ghost use Rattle.transcript.specs.Print.{is_told, told_text, statement_of, call_line, end_line, entry_line, print};
+ghost use Rattle.transcript.specs.Told.{has_call};
+
+use crate::line::{put_arrive, put_confirm, put_offer, put_timer_lines};
+use crate::reply::put_reply;
+use crate::told::ToldCalls;
+use crate::word::statement_word;
+use aq_base::DbId;
+use payload_records::List;
+use queue_rows::{Entry, History, Reply, SessionScript, Statement, Step};
+use std::alloc::{AllocError, Global};
+
+fn statement_of(session: &SessionScript, number: u32) -> Option<&Statement>
+    ensures { option_copied result ≡ statement_of session.now number }
+{
+    if number == 0 {
+        return None;
+    }
+    session.statements.get(number as usize - 1)
+}
+
+fn put_told(
+    out: &mut String,
+    scripts: &List<SessionScript>,
+    told: bool,
+    reply: &Reply,
+) -> Result<(), AllocError>
+    ensures { OnOk result (string_bytes out.new ≡ string_bytes out.old ++ told_text scripts.now told reply.now) }
+{
+    if told {
+        put_reply(out, scripts, reply)
+    } else {
+        out.push_str("untold")
+    }
+}
+
+fn put_call(
+    out: &mut String,
+    scripts: &List<SessionScript>,
+    session: u32,
+    number: u32,
+    told: bool,
+    reply: &Reply,
+) -> Result<(), AllocError>
+    ensures { OnOk result (string_bytes out.new ≡ string_bytes out.old
+        ++ call_line (slice_get scripts.now session) number (told_text scripts.now told reply.now)) }
+{
+    let Some(script) = scripts.get(session as usize) else {
+        return Ok(());
+    };
+    let Some(statement) = statement_of(script, number) else {
+        return Ok(());
+    };
+    let name = script.name.as_str();
+    let word = statement_word(statement);
+    write!(out, "{name}.{number} {word} ")?;
+    put_told(out, scripts, told, reply)?;
+    out.push_str("\n")
+}
+
+fn put_end(out: &mut String, scripts: &List<SessionScript>, session: u32) -> Result<(), AllocError>
+    ensures { OnOk result (string_bytes out.new ≡ string_bytes out.old
+        ++ end_line (slice_get scripts.now session)) }
+{
+    let Some(script) = scripts.get(session as usize) else {
+        return Ok(());
+    };
+    let name = script.name.as_str();
+    write!(out, "{name} end\n")
+}
+
+fn put_timer(out: &mut String, entry: &Entry) -> Result<(), AllocError>
+    ensures { OnOk result (string_bytes out.new ≡ string_bytes out.old
+        ++ (timer_lines Home entry.now.home ++ timer_lines Away entry.now.away)) }
+{
+    put_timer_lines(out, DbId::Home, &entry.home)?;
+    put_timer_lines(out, DbId::Away, &entry.away)
+}
+
+fn put_entry(
+    out: &mut String,
+    history: &History,
+    told: &ToldCalls,
+    entry: &Entry,
+) -> Result<(), AllocError>
+    requires { (session number : ℕ)
+        → has_call told.now session number ≡ is_told history.now.entries session number }
+    ensures { OnOk result (string_bytes out.new ≡ string_bytes out.old ++ entry_line history.now entry.now) }
+{
+    match &entry.step {
+        Step::Call { number, reply } => {
+            let is_told = told.has(entry.actor, *number);
+            put_call(out, &history.scripts, entry.actor, *number, is_told, reply)
+        }
+        Step::Timer => put_timer(out, entry),
+        Step::Offer { at, to } => put_offer(out, *at, to),
+        Step::Arrive { at, outcome } => put_arrive(out, *at, *outcome),
+        Step::Confirm { at } => put_confirm(out, *at),
+        Step::End => put_end(out, &history.scripts, entry.actor),
+        Step::Park { .. } | Step::Flush | Step::Told { .. } => Ok(()),
+    }
+}
+
+/// The text of a history: a line for each call, for each thing that the timer and the propagator
+/// did, and for each end of a session. A call of what no session asked prints nothing. The time
+/// that it takes grows with the length of the history, and not with its square.
+#[tactic(auto, unfolding(crate::specs::Print::print))]
+pub fn print(alloc: Global, history: &History) -> Result<Vec<u8>, AllocError>
+    ensures { IfOk result (λ text. text.items ≡ print history.now) }
+{
+    let told = ToldCalls::of(alloc, &history.entries)?;
+    let mut out = String::new(alloc);
+    for entry in &history.entries {
+        put_entry(&mut out, history, &told, entry)?;
+    }
+    Ok(out.into_bytes())
+}

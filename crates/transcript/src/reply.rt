@@ -1,0 +1,221 @@
+// The text of a reply: a word, and with some words more behind it.
+ghost use Rattle.std.specs.Prelude.{◌≡◌, ◌++◌, OnOk, string_bytes, unwrap_or, codes, decimal};
+ghost use Rattle.transcript.specs.Text.{id_text};
+ghost use Rattle.transcript.specs.Reply.{reply_word, record_text, payload_text, message_text, payload_fault_word, payload_fault_place, payload_fault_text, condition_fault_text, limit_text, reply_details, reply_text};
+
+use crate::text::{Id, put_json, put_json_or_null, session_name};
+use payload_records::{List, Name, PayloadFault, Text};
+use queue_rows::{ConditionFault, LimitName, MsgId, Reply, SessionScript, Shown};
+use std::alloc::AllocError;
+
+fn reply_word(reply: &Reply) -> &'static str
+    ensures { result.now ≡ reply_word reply.now }
+{
+    match reply {
+        Reply::Ok | Reply::Enqueued(_) => "ok",
+        Reply::Message { .. } => "message",
+        Reply::Agent { .. } => "agent",
+        Reply::Held(_) => "held",
+        Reply::Payload(_) => "payload",
+        Reply::BadCondition(_) => "bad-condition",
+        Reply::Limit(_) => "limit",
+        Reply::NoMessage => "no-message",
+        Reply::EndOfGroup => "end-of-group",
+        Reply::NoTable => "no-table",
+        Reply::NoQueue => "no-queue",
+        Reply::Exists => "exists",
+        Reply::InUse => "in-use",
+        Reply::EnqueueOff => "enqueue-off",
+        Reply::DequeueOff => "dequeue-off",
+        Reply::WrongKind => "wrong-kind",
+        Reply::NoRecipients => "no-recipients",
+        Reply::ConsumerNeeded => "consumer-needed",
+        Reply::ConsumerRefused => "consumer-refused",
+        Reply::NotARecipient => "not-a-recipient",
+        Reply::NoSuchMessage => "no-such-message",
+        Reply::NoSubscriber => "no-subscriber",
+        Reply::BadExceptionQueue => "bad-exception-queue",
+        Reply::BadRelative => "bad-relative",
+        Reply::TooDeep => "too-deep",
+        Reply::Grouped => "grouped",
+        Reply::NotGrouped => "not-grouped",
+        Reply::Outstanding => "outstanding",
+        Reply::NoSchedule => "no-schedule",
+    }
+}
+
+#[tactic(auto, using(crate::proofs::Floats::no_float))]
+fn put_record(out: &mut String, shown: &Shown) -> Result<(), AllocError>
+    ensures { OnOk result (string_bytes out.new ≡ string_bytes out.old ++ record_text shown.now) }
+{
+    let alloc = *out.allocator();
+    let value = shown.cells.to_json(alloc, &shown.kind)?;
+    let json = value.to_string(alloc)?;
+    out.push_str(json.as_str())
+}
+
+fn put_payload(out: &mut String, payload: &Option<Shown>) -> Result<(), AllocError>
+    ensures { OnOk result (string_bytes out.new ≡ string_bytes out.old ++ payload_text payload.now) }
+{
+    let Some(shown) = payload else {
+        return Ok(());
+    };
+    out.push_str(" ")?;
+    put_record(out, shown)
+}
+
+fn put_message(
+    out: &mut String,
+    id: MsgId,
+    priority: i64,
+    retries: u64,
+    corr: &Option<Text>,
+    payload: &Option<Shown>,
+) -> Result<(), AllocError>
+    ensures { OnOk result (string_bytes out.new
+        ≡ string_bytes out.old ++ message_text id priority retries corr.now payload.now) }
+{
+    let id = Id {
+        db: id.db,
+        number: id.number,
+    };
+    write!(out, " {id} priority {priority} retries {retries} corr ")?;
+    put_json_or_null(out, corr)?;
+    put_payload(out, payload)
+}
+
+fn consumer_text(consumer: &Option<Name>) -> &str
+    ensures { result.now ≡ unwrap_or consumer.now (codes "-") }
+{
+    match consumer {
+        Some(name) => name.as_str(),
+        None => "-",
+    }
+}
+
+fn put_agent(
+    out: &mut String,
+    number: u32,
+    queue: &Name,
+    consumer: &Option<Name>,
+) -> Result<(), AllocError>
+    ensures { OnOk result (string_bytes out.new
+        ≡ string_bytes out.old ++ (codes " " ++ decimal number ++ codes " " ++ queue.now ++ codes " " ++ unwrap_or consumer.now (codes "-"))) }
+{
+    let queue = queue.as_str();
+    let consumer = consumer_text(consumer);
+    write!(out, " {number} {queue} {consumer}")
+}
+
+fn payload_fault_word(fault: &PayloadFault) -> &'static str
+    ensures { result.now ≡ payload_fault_word fault.now }
+{
+    match fault {
+        PayloadFault::NotObject => "not-object",
+        PayloadFault::UnknownField(_) => "unknown-field",
+        PayloadFault::WrongKind(_) => "wrong-kind",
+        PayloadFault::TooLong(_) => "too-long",
+        PayloadFault::Memory => "memory",
+    }
+}
+
+fn put_payload_fault_place(out: &mut String, fault: &PayloadFault) -> Result<(), AllocError>
+    ensures { OnOk result (string_bytes out.new ≡ string_bytes out.old ++ payload_fault_place fault.now) }
+{
+    match fault {
+        PayloadFault::UnknownField(key) => {
+            out.push_str(" ")?;
+            put_json(out, key.as_str())
+        }
+        PayloadFault::WrongKind(name) | PayloadFault::TooLong(name) => {
+            put_two(out, " ", name.as_str())
+        }
+        PayloadFault::NotObject | PayloadFault::Memory => Ok(()),
+    }
+}
+
+fn put_payload_fault(out: &mut String, fault: &PayloadFault) -> Result<(), AllocError>
+    ensures { OnOk result (string_bytes out.new ≡ string_bytes out.old ++ payload_fault_text fault.now) }
+{
+    let word = payload_fault_word(fault);
+    write!(out, " {word}")?;
+    put_payload_fault_place(out, fault)
+}
+
+fn put_two(out: &mut String, first: &str, second: &str) -> Result<(), AllocError>
+    ensures { OnOk result (string_bytes out.new ≡ string_bytes out.old ++ (first.now ++ second.now)) }
+{
+    out.push_str(first)?;
+    out.push_str(second)
+}
+
+fn put_condition_fault(out: &mut String, fault: &ConditionFault) -> Result<(), AllocError>
+    ensures { OnOk result (string_bytes out.new ≡ string_bytes out.old ++ condition_fault_text fault.now) }
+{
+    match fault {
+        ConditionFault::At(bytes) => write!(out, " at {bytes}"),
+        ConditionFault::Field(name) => put_two(out, " field ", name.as_str()),
+        ConditionFault::Kind => out.push_str(" kind"),
+    }
+}
+
+fn limit_text(name: LimitName) -> &'static str
+    ensures { result.now ≡ limit_text name }
+{
+    match name {
+        LimitName::Recipients => " recipients",
+        LimitName::Subscribers => " subscribers",
+        LimitName::Ids => " ids",
+    }
+}
+
+fn put_id(out: &mut String, id: MsgId) -> Result<(), AllocError>
+    ensures { OnOk result (string_bytes out.new ≡ string_bytes out.old ++ (codes " " ++ id_text id.db id.number)) }
+{
+    let id = Id {
+        db: id.db,
+        number: id.number,
+    };
+    write!(out, " {id}")
+}
+
+fn put_details(
+    out: &mut String,
+    scripts: &List<SessionScript>,
+    reply: &Reply,
+) -> Result<(), AllocError>
+    ensures { OnOk result (string_bytes out.new ≡ string_bytes out.old ++ reply_details scripts.now reply.now) }
+{
+    match reply {
+        Reply::Enqueued(id) => put_id(out, *id),
+        Reply::Message {
+            id,
+            priority,
+            retries,
+            corr,
+            payload,
+        } => put_message(out, *id, *priority, *retries, corr, payload),
+        Reply::Agent {
+            number,
+            queue,
+            consumer,
+        } => put_agent(out, *number, queue, consumer),
+        Reply::Held(session) => put_two(out, " ", session_name(scripts, *session)),
+        Reply::Payload(fault) => put_payload_fault(out, fault),
+        Reply::BadCondition(fault) => put_condition_fault(out, fault),
+        Reply::Limit(name) => out.push_str(limit_text(*name)),
+        _ => Ok(()),
+    }
+}
+
+/// Puts the text of a reply in.
+pub(crate) fn put_reply(
+    out: &mut String,
+    scripts: &List<SessionScript>,
+    reply: &Reply,
+) -> Result<(), AllocError>
+    ensures { OnOk result (string_bytes out.new ≡ string_bytes out.old ++ reply_text scripts.now reply.now) }
+{
+    out.push_str(reply_word(reply))?;
+    put_details(out, scripts, reply)
+}

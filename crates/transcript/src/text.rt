@@ -1,0 +1,95 @@
+// The parts of a line: ids, slots, sessions and texts as JSON.
+ghost use Rattle.std.specs.Prelude.{◌≡◌, ◌++◌, OnOk, IfOk, option_map, string_bytes, Some};
+ghost use Rattle.serde_json.specs.View.{view};
+ghost use Rattle.transcript.specs.Text.{letter_of, other_of, id_text, slot_text, json_text, json_or_null, session_text};
+
+use aq_base::DbId;
+use payload_records::{List, Text};
+use queue_rows::SessionScript;
+use serde_json::Value;
+use std::alloc::{AllocError, Global};
+use std::fmt;
+
+fn letter_of(db: DbId) -> &'static str
+    ensures { result.now ≡ letter_of db }
+{
+    match db {
+        DbId::Home => "h",
+        DbId::Away => "a",
+    }
+}
+
+pub(crate) fn other_of(db: DbId) -> DbId
+    ensures { result ≡ other_of db }
+{
+    match db {
+        DbId::Home => DbId::Away,
+        DbId::Away => DbId::Home,
+    }
+}
+
+/// An id, which prints as `h7`.
+#[derive(Clone, Copy)]
+pub(crate) struct Id {
+    pub db: DbId,
+    pub number: u64,
+}
+
+/// A slot, which prints as `h7.2`.
+#[derive(Clone, Copy)]
+pub(crate) struct Slot {
+    pub db: DbId,
+    pub id: u64,
+    pub number: u64,
+}
+
+impl fmt::Display for Id {
+    ghost output = { λ id. Some (id_text id.db id.number) };
+
+    fn fmt<W: fmt::Write>(&self, f: &mut fmt::Formatter<W>) -> fmt::Result {
+        let letter = letter_of(self.db);
+        let number = self.number;
+        write!(f, "{letter}{number}")
+    }
+}
+
+impl fmt::Display for Slot {
+    ghost output = { λ slot. Some (slot_text slot.db slot.id slot.number) };
+
+    fn fmt<W: fmt::Write>(&self, f: &mut fmt::Formatter<W>) -> fmt::Result {
+        let letter = letter_of(self.db);
+        let id = self.id;
+        let number = self.number;
+        write!(f, "{letter}{id}.{number}")
+    }
+}
+
+/// Puts a text in as a JSON text, in its quotes.
+pub(crate) fn put_json(out: &mut String, text: &str) -> Result<(), AllocError>
+    ensures { OnOk result (string_bytes out.new ≡ string_bytes out.old ++ json_text text.now) }
+{
+    let alloc = *out.allocator();
+    let value = Value::String(String::from_str(alloc, text)?);
+    let json = value.to_string(alloc)?;
+    out.push_str(json.as_str())
+}
+
+/// Puts a text in as a JSON text, or null.
+pub(crate) fn put_json_or_null(out: &mut String, text: &Option<Text>) -> Result<(), AllocError>
+    ensures { OnOk result (string_bytes out.new ≡ string_bytes out.old ++ json_or_null text.now) }
+{
+    match text {
+        Some(text) => put_json(out, text.as_str()),
+        None => out.push_str("null"),
+    }
+}
+
+/// The name of the session of that number, from 0; no text where there is no such session.
+pub(crate) fn session_name(scripts: &List<SessionScript>, session: u32) -> &str
+    ensures { result.now ≡ session_text scripts.now session }
+{
+    match scripts.get(session as usize) {
+        Some(script) => script.name.as_str(),
+        None => "",
+    }
+}

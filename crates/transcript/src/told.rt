@@ -1,0 +1,69 @@
+// Which calls a history tells, noted in one walk over it.
+ghost use Rattle.std.specs.Prelude.{◌≡◌, ℕ, ◌||◌, ◌&&◌, ◌==◌, false, OnOk, IfOk};
+ghost use Rattle.transcript.specs.Print.{is_telling, is_told};
+ghost use Rattle.transcript.specs.Told.{has_call};
+
+use payload_records::List;
+use queue_rows::{Entry, Step};
+use std::alloc::{AllocError, Global};
+use std::collections::HashSet;
+
+/// A call: whose it is, and the number of its statement.
+#[derive(PartialEq, Eq, Hash, Drop)]
+pub(crate) struct Call {
+    session: u32,
+    number: u32,
+}
+
+/// The calls whose replies were told.
+#[derive(Drop)]
+pub(crate) struct ToldCalls {
+    calls: HashSet<Call>,
+}
+
+impl ToldCalls {
+    fn new(alloc: Global) -> ToldCalls
+        ensures { (session number : ℕ) → has_call result session number ≡ false }
+    {
+        ToldCalls {
+            calls: HashSet::new(alloc),
+        }
+    }
+
+    fn note(&mut self, session: u32, number: u32) -> Result<(), AllocError>
+        ensures { OnOk result ((s n : ℕ) → has_call self.new s n
+            ≡ (((session == s) && (number == n)) || has_call self.old s n)) }
+    {
+        self.calls.insert(Call { session, number })?;
+        Ok(())
+    }
+
+    fn note_entry(&mut self, entry: &Entry) -> Result<(), AllocError>
+        ensures { OnOk result ((s n : ℕ) → has_call self.new s n
+            ≡ (((entry.now.actor == s) && is_telling n entry.now.step) || has_call self.old s n)) }
+    {
+        match entry.step {
+            Step::Told { number } => self.note(entry.actor, number),
+            _ => Ok(()),
+        }
+    }
+
+    /// The calls that these entries tell.
+    pub(crate) fn of(alloc: Global, entries: &List<Entry>) -> Result<ToldCalls, AllocError>
+        ensures { IfOk result (λ told. (session number : ℕ)
+            → has_call told session number ≡ is_told entries.now session number) }
+    {
+        let mut told = ToldCalls::new(alloc);
+        for entry in entries {
+            told.note_entry(entry)?;
+        }
+        Ok(told)
+    }
+
+    /// Whether that session's call of its statement of that number is among them.
+    pub(crate) fn has(&self, session: u32, number: u32) -> bool
+        ensures { result ≡ has_call self.now session number }
+    {
+        self.calls.contains(&Call { session, number })
+    }
+}
