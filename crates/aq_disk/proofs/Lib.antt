@@ -1,3 +1,4 @@
 mod Calls
 mod HeldSteps
+pub mod Moments
 mod Pushed

@@ -16,7 +16,7 @@ after_read at buffer bytes = take (length buffer) (drop at bytes) ++ drop (count
 
 -- the number of the next call; at its type's end the number stands still
 abbrev pub next_call : ℕ → ℕ
-next_call calls = min (calls + 1) (2 ^ 64 - 1)
+next_call calls = calls + min 1 (2 ^ 64 - 1 - calls)
 
 -- What a crash may make of a write of n bytes from a place on: any bytes in the range and past the old end,
 -- the same elsewhere.

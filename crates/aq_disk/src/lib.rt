@@ -9,8 +9,10 @@ mod held;
 mod kept;
 mod memory;
 mod replay;
+mod synced;
 
 pub use device::{Disk, Failed, LENGTH_LIMIT};
 pub use file::FileDisk;
 pub use kept::Fill;
 pub use memory::MemoryDisk;
+pub use synced::write_synced;
