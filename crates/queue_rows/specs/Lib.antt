@@ -1,3 +1,9 @@
+pub mod Administration
 pub mod Built
+pub mod Commits
+pub mod Enqueueing
+pub mod Meaning
 pub mod Rows
+pub mod Session
+pub mod Settling
 pub mod Tables
