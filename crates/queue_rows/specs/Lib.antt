@@ -1,9 +1,16 @@
 pub mod Administration
 pub mod Built
 pub mod Commits
+pub mod Dequeueing
 pub mod Enqueueing
+pub mod Legal
 pub mod Meaning
+pub mod Order
 pub mod Rows
+pub mod Serial
 pub mod Session
 pub mod Settling
+pub mod Statements
 pub mod Tables
+pub mod Turns
+pub mod World

@@ -4,11 +4,12 @@ use Rattle.queue_rows.specs.Session.{Session}
 use Rattle.queue_rows.specs.declared.change.Change.{Change}
 use Rattle.queue_rows.specs.declared.reply.Reply.{Reply}
 
--- what a statement means: a reply, what is committed at the session's database, and the session after; or it waits; or
--- it has no meaning yet
+-- what a statement means: a reply, what is committed at the session's database, and the session with what it then holds;
+-- or it waits,
+-- since that moment; or it has no meaning yet
 pub data Meaning : Type 0 where
   answers : Reply → List Change → Session → Meaning
-  parks : Session → Meaning
+  parks : ℕ → Meaning
   unbuilt : Meaning
 
 -- a refused statement commits nothing, and changes nothing of its session but that it no longer waits

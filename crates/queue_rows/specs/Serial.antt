@@ -1,0 +1,45 @@
+-- The serial schedule: rounds in which each live session takes a turn, then the timer, then the propagator, and then what
+-- was called is told; and when no session is live, the closing turn.
+use Rattle.std.specs.Prelude.{ℕ, zero, suc, ◌≡◌, List, false, map, length}
+use Rattle.queue_rows.specs.World.{World, opened, opening_moment, uncounted}
+use Rattle.queue_rows.specs.Turns.{session_turn, telling_turn, background_turn, any_live, closing_turn}
+use Rattle.queue_rows.specs.declared.tables.Tables.{Tables}
+use Rattle.queue_rows.specs.declared.history.SessionScript.{SessionScript}
+use Rattle.queue_rows.specs.declared.history.History.{History}
+
+-- f for each of so many sessions, in order
+abbrev pub each : (ℕ → World → World) → ℕ → World → World
+each f zero w = w
+each f (suc n) w = f n (each f n w)
+
+abbrev pub session_turns : World → World
+session_turns w = each session_turn (length w.sessions) w
+
+abbrev pub background_turns : World → World
+background_turns w = background_turn (background_turn w)
+
+abbrev pub telling_turns : World → World
+telling_turns w = each telling_turn (length w.sessions) w
+
+unfoldable pub round : World → World
+round w = telling_turns (background_turns (session_turns w))
+
+unfoldable pub rounds : ℕ → World → World
+rounds zero w = w
+rounds (suc n) w = round (rounds n w)
+
+-- after so many rounds no session is live
+abbrev pub EndsIn : World → ℕ → Type 0
+EndsIn w n = any_live (rounds n w) ≡ false
+
+-- the history begins with these tables and scripts
+pub record Begins (home away : Tables) (scripts : List SessionScript) (history : History) : Type 0 where
+  pub home_is : history.home ≡ home
+  pub away_is : history.away ≡ away
+  pub opening_is : history.opening ≡ opening_moment home away
+  pub scripts_are : history.scripts ≡ scripts
+
+-- the history of the serial schedule: its rounds go on while a session is live
+pub record IsSerial (home away : Tables) (scripts : List SessionScript) (history : History) : Type 0 where
+  pub begins : Begins home away scripts history
+  pub turns : (n : ℕ) × EndsIn (opened home away scripts) n × (map uncounted history.entries ≡ (closing_turn (rounds n (opened home away scripts))).entries)

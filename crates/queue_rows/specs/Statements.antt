@@ -1,0 +1,28 @@
+-- What a statement means in a world.
+use Rattle.std.specs.Prelude.{ℕ, ◌+◌, Option, Some, None, slice_get}
+use Rattle.queue_rows.specs.Session.{Session}
+use Rattle.queue_rows.specs.Meaning.{Meaning, unbuilt}
+use Rattle.queue_rows.specs.Administration.{administer}
+use Rattle.queue_rows.specs.Enqueueing.{enqueue}
+use Rattle.queue_rows.specs.Dequeueing.{dequeue}
+use Rattle.queue_rows.specs.World.{World, Database, database_at}
+use Rattle.queue_rows.specs.declared.history.SessionScript.{SessionScript}
+use Rattle.queue_rows.specs.declared.statement.Statement.{Statement}
+use Rattle.queue_rows.specs.declared.statement.Statement.TheVariants as statements
+
+-- what a statement of the session of that number means
+unfoldable pub meaning : World → ℕ → Session → Statement → Meaning
+meaning w i s (statements.Admin ask) = administer (database_at s.at w).tables s ask
+meaning w i s (statements.Enqueue ask) = enqueue (database_at s.at w).tables s ask (database_at s.at w).next w.moment
+meaning w i s (statements.Dequeue ask) = dequeue (database_at s.at w).tables w.sessions i s ask w.moment
+meaning w i s (statements.Listen ask) = unbuilt
+meaning w i s statements.Commit = unbuilt
+meaning w i s statements.Rollback = unbuilt
+
+abbrev pub statement_of : Option SessionScript → ℕ → Option Statement
+statement_of None number = None
+statement_of (Some script) number = slice_get script.statements number
+
+-- the statement that a session would call next, if any is left
+abbrev pub next_statement : World → ℕ → Session → Option Statement
+next_statement w i s = statement_of (slice_get w.scripts i) s.next

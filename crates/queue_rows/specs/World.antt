@@ -1,0 +1,120 @@
+-- The whole state of a run, on plain lists.
+use Rattle.std.specs.Prelude.{ℕ, ◌+◌, ◌^◌, ◌==◌, List, [], ◌∷◌, ◌++◌, if◌then◌else◌, min, max, map, Option, Some, None, slice_set, length}
+use Rattle.aq_base.specs.declared.DbId.{DbId}
+use Rattle.aq_base.specs.declared.DbId.TheVariants.{Home, Away}
+use Rattle.queue_rows.specs.Tables.{after}
+use Rattle.queue_rows.specs.Session.{Session, fresh_at}
+use Rattle.queue_rows.specs.declared.tables.Tables.{Tables}
+use Rattle.queue_rows.specs.declared.change.Change.{Change}
+use Rattle.queue_rows.specs.declared.history.Entry.{Entry}
+use Rattle.queue_rows.specs.declared.history.Step.{Step}
+use Rattle.queue_rows.specs.declared.history.SlotRef.{SlotRef}
+use Rattle.queue_rows.specs.declared.history.SessionScript.{SessionScript}
+
+-- A database: its tables; how many commits were made in this run, and how many of them are durable; and the next id to
+-- give.
+pub record Database : Type 0 where
+  pub tables : Tables
+  pub made : ℕ
+  pub durable : ℕ
+  pub next : ℕ
+
+-- how far the slot that is being sent has come; with the number of the destination's commits of which the arrival, or
+-- the commit that has it seen, is the last
+pub data Stage : Type 0 where
+  offered : Stage
+  arrived : ℕ → Stage
+
+pub record Transit : Type 0 where
+  pub slot : SlotRef
+  pub stage : Stage
+
+-- the two databases, what was asked, the sessions, the slot that is being sent, the moment at which the run began, the
+-- present one, how many readings of the clock were taken, and the steps so far (without the numbers of disk calls)
+pub record World : Type 0 where
+  pub home : Database
+  pub away : Database
+  pub scripts : List SessionScript
+  pub sessions : List Session
+  pub transit : Option Transit
+  pub opening : ℕ
+  pub moment : ℕ
+  pub readings : ℕ
+  pub entries : List Entry
+
+-- the greatest moment
+abbrev pub greatest_moment : ℕ
+greatest_moment = 2 ^ 62
+
+abbrev pub database_at : DbId → World → Database
+database_at Home w = w.home
+database_at Away w = w.away
+
+-- ---- beginning
+
+abbrev pub opening_moment : Tables → Tables → ℕ
+opening_moment home away = max home.latest away.latest
+
+abbrev pub opened_database : Tables → Database
+opened_database t = record { tables = t; made = 0; durable = 0; next = t.next }
+
+abbrev pub fresh : SessionScript → Session
+fresh script = fresh_at script.at
+
+unfoldable pub opened : Tables → Tables → List SessionScript → World
+opened home away scripts = record {
+  home = opened_database home;
+  away = opened_database away;
+  scripts = scripts;
+  sessions = map fresh scripts;
+  transit = None;
+  opening = opening_moment home away;
+  moment = opening_moment home away;
+  readings = 0;
+  entries = [];
+}
+
+-- ---- readings
+
+-- the moment is the greatest reading so far, and no reading counts for more than the greatest moment
+unfoldable pub read_clock : ℕ → World → World
+read_clock reading w = record w { readings = w.readings + 1; moment = max w.moment (min reading greatest_moment) }
+
+-- ---- steps
+
+-- what an entry commits at home and at away, of what is committed at one of them
+abbrev pub at_home : DbId → List Change → List Change
+at_home Home cs = cs
+at_home Away cs = []
+
+abbrev pub at_away : DbId → List Change → List Change
+at_away Home cs = []
+at_away Away cs = cs
+
+-- an empty list is no commit
+abbrev pub committed_tables : Tables → List Change → ℕ → Tables
+committed_tables t cs moment = if length cs == 0 then t else after t (record { moment = moment; changes = cs })
+
+abbrev pub commits_in : List Change → ℕ
+commits_in cs = if length cs == 0 then 0 else 1
+
+abbrev pub committed : List Change → ℕ → Database → Database
+committed cs moment d = record d { tables = committed_tables d.tables cs moment; made = d.made + commits_in cs }
+
+-- an entry without its numbers of disk calls
+abbrev pub uncounted : Entry → Entry
+uncounted e = record e { home_calls = 0; away_calls = 0 }
+
+abbrev pub entry_of : ℕ → World → List Change → List Change → Step → Entry
+entry_of actor w home away step = record { actor = actor; moment = w.moment; readings = w.readings; home_calls = 0; away_calls = 0; home = home; away = away; step = step }
+
+-- the world after a step that commits these lists
+unfoldable pub stepped : ℕ → World → List Change → List Change → Step → World
+stepped actor w home away step = record w {
+  home = committed home w.moment w.home;
+  away = committed away w.moment w.away;
+  entries = w.entries ++ entry_of actor w home away step ∷ [];
+}
+
+abbrev pub with_session : ℕ → Session → World → World
+with_session i s w = record w { sessions = slice_set w.sessions i s }
