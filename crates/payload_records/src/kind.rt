@@ -30,7 +30,7 @@ pub struct Field {
 
 /// The type of records, which contracts see as the list of its fields. They always stand in byte
 /// order of their names, which are distinct.
-#[derive(Debug, Drop)]
+#[derive(Debug, PartialEq, Eq, Drop)]
 pub struct RecordType {
     fields: List<Field>,
 }
@@ -46,6 +46,8 @@ impl Model for RecordType {
     ghost view = { λ t. t.fields };
 
     ghost invariant = { λ t. IsTrue (is_in_order t.fields) };
+
+    ghost inverse = { λ fields. record { fields = fields } };
 }
 
 /// Why a JSON value was not read as a record type.

@@ -25,3 +25,6 @@ pub const NAME_LIMIT: usize = 30;
 pub const FIELD_LIMIT: usize = 32;
 /// The most bytes of a text in a payload.
 pub const TEXT_LIMIT: usize = 4_000;
+
+#[cfg(test)]
+mod tests;

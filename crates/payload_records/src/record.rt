@@ -1,9 +1,10 @@
 // Records: one datum for each field of a record type.
-ghost use Rattle.std.specs.Prelude.{◌≡◌, ◌≢◌, IfOk, IfErr, OnOk, Ok, Err, Some, None, option_copied, find};
+ghost use Rattle.std.specs.Prelude.{◌≡◌, ◌≢◌, IfOk, IfErr, OnOk, Ok, Err, false, Some, None, option_copied, find};
 ghost use Rattle.std.specs.Str.{bytes_eq};
 ghost use Rattle.std.specs.Option.{option_map_or};
 ghost use Rattle.serde_json.specs.Data.{null, object, put};
 ghost use Rattle.serde_json.specs.View.{view, members_view};
+ghost use Rattle.serde_json.specs.Written.{has_float};
 ghost use Rattle.payload_records.specs.Record.{value_fault, member_fault, first_fault, datum_of, cell_of, cells_of, record_of, datum_json, members_json};
 ghost use Rattle.payload_records.specs.declared.record.PayloadFault.TheVariants.{Memory};
 
@@ -183,9 +184,10 @@ impl Record {
     }
 
     /// The record as a JSON object: every field of the type with its cell, null ones and those
-    /// that the record lacks as null.
+    /// that the record lacks as null. No number in it has a fraction, so its text is exact.
     pub fn to_json(&self, alloc: Global, kind: &RecordType) -> Result<Value, AllocError>
-        ensures { IfOk result (λ v. view v ≡ object (members_json kind.now self.now.cells)) }
+        ensures object { IfOk result (λ v. view v ≡ object (members_json kind.now self.now.cells)) }
+        ensures exact { IfOk result (λ v. has_float (view v) ≡ false) }
     {
         let mut members = Map::new(alloc);
         let fields = kind.fields();
