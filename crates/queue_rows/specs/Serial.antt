@@ -2,6 +2,8 @@
 -- was called is told; and when no session is live, the closing turn.
 use Rattle.std.specs.Prelude.{ℕ, zero, suc, ◌≡◌, List, false, map, length}
 use Rattle.queue_rows.specs.World.{World, opened, opening_moment, uncounted}
+use Rattle.queue_rows.specs.Order.{IsFront}
+use Rattle.queue_rows.specs.declared.history.Entry.{Entry}
 use Rattle.queue_rows.specs.Turns.{session_turn, telling_turn, background_turn, any_live, closing_turn}
 use Rattle.queue_rows.specs.declared.tables.Tables.{Tables}
 use Rattle.queue_rows.specs.declared.history.SessionScript.{SessionScript}
@@ -43,3 +45,13 @@ pub record Begins (home away : Tables) (scripts : List SessionScript) (history :
 pub record IsSerial (home away : Tables) (scripts : List SessionScript) (history : History) : Type 0 where
   pub begins : Begins home away scripts history
   pub turns : (n : ℕ) × EndsIn (opened home away scripts) n × (map uncounted history.entries ≡ (closing_turn (rounds n (opened home away scripts))).entries)
+
+-- these are the first entries of some number of rounds, or of all rounds and the closing turn
+pub data IsOnTheWay (start : World) (entries : List Entry) : Type 0 where
+  in_rounds : (n : ℕ) → IsFront entries (rounds n start).entries → IsOnTheWay start entries
+  in_closing : (n : ℕ) → EndsIn start n → IsFront entries (closing_turn (rounds n start)).entries → IsOnTheWay start entries
+
+-- the history is a first part of that of the serial schedule
+pub record IsSerialFront (home away : Tables) (scripts : List SessionScript) (history : History) : Type 0 where
+  pub begins : Begins home away scripts history
+  pub way : IsOnTheWay (opened home away scripts) (map uncounted history.entries)

@@ -5,6 +5,7 @@
 
 mod change;
 mod history;
+mod laws;
 mod reply;
 mod rows;
 mod session;
@@ -13,6 +14,7 @@ mod tables;
 
 pub use change::{Change, Commit};
 pub use history::{Arrival, Cause, Entry, History, SessionScript, SlotRef, Step};
+pub use laws::{legal_calls_in_order, serial_calls_all, serial_front_is_legal, serial_is_legal};
 pub use reply::{ConditionFault, LimitName, Reply, Shown};
 pub use rows::{
     MsgRow, QueueKind, QueueRow, ScheduleRow, SeenRow, SlotRow, SlotState, SubRow, TableRow,
