@@ -1,6 +1,6 @@
 -- Workers that come and go at the end of their list.
 use Rattle.std.proofs.Common.{◌≡◌, ℕ, ◌+◌, ◌<◌, List, [], ◌∷◌, ◌++◌, length, Bool, true, false, ◌&&◌, true≢false, refl, sym, ap, ◌∙◌, subst, inl, inr, ⊎_elim, arith, length-append, append_assoc, add-one, take, drop, drop_of_length-le}
-use Rattle.std.specs.Prelude.{Contains, slice_index_or}
+use Rattle.std.specs.Prelude.{Contains, slice_index_or, Result, Ok, Err, OnOk, OnErr}
 use Rattle.std.proofs.lemmas.List.{append-nil, take_all, get_or_append_left}
 use Rattle.std.proofs.lemmas.List.Elements.{Contains-append_left, Contains-push, Contains-push_cases}
 use mathlib.Core.Logic.{dite}
@@ -10,6 +10,7 @@ use Rattle.turnstile.specs.declared.tally.crew.Worker.{Worker}
 use mathlib.Core.List.{IsPrefix}
 use Rattle.turnstile.specs.Passes.{first_known, in_turn, after_turn, has_made, has_joined, IsJoined, AllJoined, Closes}
 use Rattle.turnstile.specs.Counting.{Pair, actor_of, numbered, Adds, IsGathered}
+use Rattle.turnstile.proofs.Lists.{drop_append}
 use Rattle.turnstile.specs.Crew.{Knows, EachAt, Leads, IsManned, AreCounted}
 
 pub both_true : (a b : Bool) → (a && b) ≡ true → (a ≡ true) × (b ≡ true)
@@ -47,8 +48,8 @@ pub record HasSplit (actors i : ℕ) (k : Knows) : Type 0 where
   pub made : (a : ℕ) → a < i → Contains k.made a
   pub only : (a : ℕ) → Contains k.made a → a < i
 
-pub split_none : (actors : ℕ) (k : Knows) → k ≡ first_known actors tt → HasSplit actors 0 k
-split_none actors k is = subst (HasSplit actors 0) (sym is) record { first = refl; actor = refl; own = refl; joined = refl; made = λ a l. absurd (omega arith); only = λ a c. let l = c.1 in absurd (omega arith) }
+pub split_none : (actors o : ℕ) (k : Knows) → k ≡ first_known actors o → HasSplit actors 0 k
+split_none actors o k is = subst (HasSplit actors 0) (sym is) record { first = refl; actor = refl; own = refl; joined = refl; made = λ a l. absurd (omega arith); only = λ a c. let l = c.1 in absurd (omega arith) }
 
 pub split_more : (actors i : ℕ) (k k' : Knows) → HasSplit actors i k → k' ≡ has_made k i → HasSplit actors (i + 1) k'
 split_more actors i k k' h is = subst (HasSplit actors (i + 1)) (sym is) record {
@@ -99,7 +100,7 @@ counted_join actors n all done all' k o k' counted both below own is = subst (Ar
 pub all_joined : (k : Knows) → IsManned k 0 → AllJoined k
 all_joined k manned a c = ⊎_elim (λ (j : IsJoined k a). j) (λ (l : a < 0). absurd (omega arith)) (manned a c)
 
-pub gathers : (actors n : ℕ) (k : Knows) (x : Tally) → Leads actors k → AllJoined k → AreCounted actors n true k → Closes (λ (t : Tally). tt) (λ t. t.pairs.items) actor_of k x → IsGathered actors n x.pairs.items
+pub gathers : (actors n : ℕ) (k : Knows) (x : Tally) → Leads actors k → AllJoined k → AreCounted actors n true k → Closes (λ (t : Tally). t.effort) (λ t. t.pairs.items) actor_of k x → IsGathered actors n x.pairs.items
 gathers actors n k x leads all counted closes = record {
   each = λ a l. let j = all a (leads.made a l) in closes.joined a j.0 j.1 ∙ (counted a j.0 j.1).1 refl;
   nobody_else = λ a l. dite (ℕ_discrete a actors)
@@ -113,13 +114,20 @@ lent_whole n new old a b =
     let nothing : drop (length new) old ≡ [] = drop_of_length-le old (omega arith) in
     ap (λ (z : List Worker). take n (new ++ z)) nothing ∙ (ap (take n) (append-nil new) ∙ take_all n new (omega arith))
 
--- a turn in which nothing was added
-pub adds_none : (k k' k'' : Knows) (log list : List Pair) → IsPrefix k.seen log → k' ≡ in_turn k log → k'' ≡ after_turn k' list → list ≡ log → Adds k k'' []
-adds_none k k' k'' log list begins enters leaves same =
-    let nothing : drop (length log) log ≡ [] = drop_of_length-le log (omega arith) in
-    let is : k'' ≡ record k { seen = log; own = k.own ++ drop (length log) log } = leaves ∙ (λ i. after_turn (enters i) (same i)) in
-    subst (λ (z : Knows). Adds k z []) (sym is) record {
+-- a turn in which these entries were added
+pub adds_these : (k k' k'' : Knows) (log list mine : List Pair) → IsPrefix k.seen log → k' ≡ in_turn k log → k'' ≡ after_turn k' list → list ≡ log ++ mine → Adds k k'' mine
+adds_these k k' k'' log list mine begins enters leaves grown =
+    let is : k'' ≡ record k { seen = log ++ mine; own = k.own ++ drop (length log) (log ++ mine) } = leaves ∙ (λ i. after_turn (enters i) (grown i)) in
+    subst (λ (z : Knows). Adds k z mine) (sym is) record {
       between = begins.0;
-      seen = sym (append-nil (k.seen ++ begins.0) ∙ begins.1);
-      knows = ap (λ (z : List Pair). record k { seen = log; own = k.own ++ z }) nothing;
+      seen = ap (λ (z : List Pair). z ++ mine) (sym begins.1);
+      knows = ap (λ (z : List Pair). record k { seen = log ++ mine; own = k.own ++ z }) (drop_append log mine);
     }
+
+pub on_ok : {A B : Type 0} (r : Result A B) (P Q : Type 0) → (P → Q) → OnOk r P → OnOk r Q
+on_ok (Ok x) P Q f p = f p
+on_ok (Err x) P Q f p = p
+
+pub on_err : {A B : Type 0} (r : Result A B) (P Q : Type 0) → (P → Q) → OnErr r P → OnErr r Q
+on_err (Ok x) P Q f p = p
+on_err (Err x) P Q f p = f p

@@ -15,7 +15,7 @@ numbered a zero = []
 numbered a (suc n) = numbered a n ++ (a, n) ∷ []
 
 -- what a pass knows after a turn: the list went on behind what it had seen, and ends with these entries, which are its own
-pub record Adds (old new : Known (Unit {0}) Pair) (mine : List Pair) : Type 0 where
+pub record Adds (old new : Known ℕ Pair) (mine : List Pair) : Type 0 where
   pub between : List Pair
   pub seen : new.seen ≡ (old.seen ++ between) ++ mine
   pub knows : new ≡ record old { seen = new.seen; own = old.own ++ mine }

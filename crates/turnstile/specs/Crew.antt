@@ -7,10 +7,10 @@ use Rattle.turnstile.specs.Passes.{Known, known, IsPassOf, IsJoined}
 use Rattle.turnstile.specs.Counting.{Pair, numbered}
 
 abbrev pub Gate : Type 0
-Gate = Turnstile Tally (Unit {0}) Pair
+Gate = Turnstile Tally ℕ Pair
 
 abbrev pub Knows : Type 0
-Knows = Known (Unit {0}) Pair
+Knows = Known ℕ Pair
 
 -- the worker's pass is of this turnstile and has its number
 pub record IsWorker (t : Gate) (w : Worker) : Type 0 where

@@ -8,6 +8,8 @@ mod lock;
 mod pass;
 mod rule;
 pub mod tally;
+#[cfg(test)]
+mod tests;
 mod turn;
 
 pub use grows::Grows;

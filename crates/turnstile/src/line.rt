@@ -1,4 +1,4 @@
-//! Who tries first. This is advice alone: no clause rests on it, and a pass whose number is lost tries all the same after a while.
+//! Who tries first. This is advice alone: no clause rests on it, and a pass whose number was lost tries all the same after a while.
 use std::array;
 use std::hint::spin_loop;
 use std::sync::Wait;
@@ -9,20 +9,20 @@ use std::time::Duration;
 /// Places to sleep. Tickets that far apart share one, which costs a needless wake and no more.
 const CHAIRS: usize = 128;
 
-/// How many looks a thread spins for, and how many it then yields for, before it sleeps.
+/// A thread with fewer turns ahead of its own spins before it sleeps.
+const NEAR: u64 = 2;
+
+/// How many looks it spins for, some microseconds, and how many it then yields for.
 const SPINS: u32 = 200;
 
-const YIELDS: u32 = 4;
+const YIELDS: u32 = 2;
 
-/// A thread this far from the front or further sleeps at once.
-const NEAR: u64 = 3;
+/// The first nap in microseconds for each turn ahead. The next ones double up to a millisecond.
+const NAP: u64 = 64;
 
-/// The first sleep in microseconds. The next ones double, up to the tenth, a millisecond.
-const NAP: u64 = 1;
+const DOUBLINGS: u32 = 4;
 
-const DOUBLINGS: u32 = 10;
-
-/// After so many rests, about a second, a thread tries the lock even if its ticket was not served.
+/// After so many naps, at the front about a second, a thread tries the lock even if its ticket was not served.
 const PATIENCE: u32 = 1_000;
 
 const EMPTY: u64 = 0;
@@ -38,11 +38,11 @@ pub struct Line {
     chairs: [AtomicU64; CHAIRS],
 }
 
-/// A place in the line, and how often its holder has rested.
+/// A place in the line, and how often its holder has napped.
 #[derive(Drop)]
 pub struct Ticket {
     number: u64,
-    rests: u32,
+    naps: u32,
 }
 
 impl Line {
@@ -58,33 +58,31 @@ impl Line {
     pub fn draw(&self) -> Ticket {
         Ticket {
             number: self.drawn.fetch_add(1, Ordering::SeqCst),
-            rests: 0,
+            naps: 0,
         }
     }
 
     /// Waits until the ticket is served, or patience ends.
     pub fn wait<R: Wait>(&self, rt: &R, ticket: &mut Ticket) {
+        self.spin(ticket);
         for _ in 0..PATIENCE {
             if self.ahead(ticket) == 0 {
                 return;
             }
-            self.rest(rt, ticket);
+            self.nap(rt, ticket);
         }
     }
 
-    /// Rests once: at first briefly, then longer each time, and never for more than a millisecond.
-    pub fn rest<R: Wait>(&self, rt: &R, ticket: &mut Ticket) {
-        let rests = ticket.rests;
-        ticket.rests = rests.saturating_add(1);
-        let near = self.ahead(ticket) < NEAR;
-        if near && rests < SPINS {
-            spin_loop();
-        } else if near && rests < SPINS + YIELDS {
-            yield_now();
-        } else {
-            let naps = rests.saturating_sub(SPINS + YIELDS);
-            let time = NAP << naps.min(DOUBLINGS);
-            self.sleep(rt, ticket, Duration::from_micros(time));
+    /// Sleeps until the ticket is served, for a while that grows with each nap, and with the turns ahead.
+    pub fn nap<R: Wait>(&self, rt: &R, ticket: &mut Ticket) {
+        let ahead = self.ahead(ticket);
+        let time = (NAP << ticket.naps.min(DOUBLINGS)).saturating_mul(ahead.max(1));
+        ticket.naps = ticket.naps.saturating_add(1);
+        let chair = self.chair(ticket.number);
+        // Who says first that it sleeps and then looks again misses no call.
+        chair.store(ASLEEP, Ordering::SeqCst);
+        if self.ahead(ticket) == ahead {
+            chair.park_timeout(rt, ASLEEP as u32, Duration::from_micros(time));
         }
     }
 
@@ -98,6 +96,21 @@ impl Line {
         }
     }
 
+    // Looks for a while, as long as the ticket is near the front.
+    fn spin(&self, ticket: &Ticket) {
+        for look in 0..SPINS + YIELDS {
+            let ahead = self.ahead(ticket);
+            if ahead == 0 || ahead >= NEAR {
+                return;
+            }
+            if look < SPINS {
+                spin_loop();
+            } else {
+                yield_now();
+            }
+        }
+    }
+
     /// How many turns are to end before this ticket's.
     fn ahead(&self, ticket: &Ticket) -> u64 {
         ticket
@@ -107,14 +120,5 @@ impl Line {
 
     fn chair(&self, number: u64) -> &AtomicU64 {
         &self.chairs[(number % CHAIRS as u64) as usize]
-    }
-
-    // Who says first that it sleeps and then looks again misses no call.
-    fn sleep<R: Wait>(&self, rt: &R, ticket: &Ticket, time: Duration) {
-        let chair = self.chair(ticket.number);
-        chair.store(ASLEEP, Ordering::SeqCst);
-        if self.ahead(ticket) != 0 {
-            chair.park_timeout(rt, ASLEEP as u32, time);
-        }
     }
 }

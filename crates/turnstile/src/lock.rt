@@ -98,7 +98,7 @@ impl<W: Grows> Turnstile<W> {
             if found == 0 {
                 return;
             }
-            self.line.rest(rt, &mut ticket);
+            self.line.nap(rt, &mut ticket);
         }
         unreachable!()
     }

@@ -12,21 +12,24 @@ use crate::lock::Turnstile;
 use crate::pass::Pass;
 pub use crew::gathered;
 use std::alloc::{AllocError, Global};
+use std::hint::spin_loop;
 use std::sync::Wait;
 
 /// A list to which each actor adds numbers.
 #[derive(Drop)]
 pub struct Tally {
+    /// How long an addition takes, in pauses of the processor. It stays as it was at the start.
+    pub effort: u32,
     /// The actor and the number of each entry, in the order in which they were added.
     pub pairs: Vec<(u32, u32)>,
 }
 
 impl Grows for Tally {
-    type Opening = ();
+    type Opening = u32;
 
     type Entry = (u32, u32);
 
-    ghost opening = { λ _. tt };
+    ghost opening = { λ t. t.effort };
 
     ghost entries = { λ t. t.pairs.items };
 
@@ -35,12 +38,27 @@ impl Grows for Tally {
 
 impl Tally {
     /// An empty list.
-    pub fn new(alloc: Global) -> Tally
-        ensures { result.pairs.items ≡ [] }
+    pub fn new(alloc: Global, effort: u32) -> Tally
+        ensures effort { result.effort ≡ effort }
+        ensures empty { result.pairs.items ≡ [] }
     {
         Tally {
+            effort,
             pairs: Vec::new(alloc),
         }
+    }
+
+    /// Adds one number of an actor. The error is want of memory, and then nothing is added.
+    pub fn add(&mut self, actor: u32, number: u32) -> Result<(), AllocError>
+        ensures effort { self.new.effort ≡ self.old.effort }
+        ensures ok { OnOk result (self.new.pairs.items ≡ self.old.pairs.items ++ (actor, number) ∷ []) }
+        ensures err { OnErr result (self.new.pairs.items ≡ self.old.pairs.items) }
+    {
+        for _ in 0..self.effort {
+            spin_loop();
+        }
+        self.pairs.push((actor, number))?;
+        Ok(())
     }
 }
 
@@ -60,12 +78,9 @@ pub fn add<R: Wait>(
 {
     let mut turn = turnstile.enter(rt, pass);
     let tally = turn.value();
-    let added = tally.pairs.push((actor, number));
+    let added = tally.add(actor, number);
     turn.leave();
-    match added {
-        Ok(()) => Ok(()),
-        Err(_) => Err(AllocError),
-    }
+    added
 }
 
 /// Adds the numbers below `turns` in order, in a turn each. The error is want of memory, and then those before it were added.

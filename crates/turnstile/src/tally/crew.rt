@@ -1,5 +1,5 @@
 //! Workers that add to one list in threads of their own.
-ghost use Rattle.std.specs.Prelude.{◌≡◌, ◌<◌, ◌≤◌, [], true, length, vec_len, vec_capacity, IfOk};
+ghost use Rattle.std.specs.Prelude.{◌≡◌, ℕ, ◌≤◌, [], true, vec_len, vec_capacity, IfOk};
 ghost use Rattle.turnstile.specs.Passes.{known, IsPassOf, first_known, AllJoined};
 ghost use Rattle.turnstile.specs.Counting.{IsGathered};
 ghost use Rattle.turnstile.specs.Crew.{IsFresh, IsBack, AreFresh, AreBack, Leads, IsManned, AreCounted};
@@ -34,11 +34,13 @@ fn run<R: Threads + Wait + Sync>(
     workers: &mut [Worker],
     turns: u32,
 )
-    requires some { 0 < length workers.old }
-    requires passes { AreFresh turnstile.now workers.old }
-    ensures passes { AreBack turnstile.now turns workers.new }
+    requires { AreFresh turnstile.now workers.old }
+    ensures { AreBack turnstile.now turns workers.new }
 {
     let threads = workers.len();
+    if threads == 0 {
+        return;
+    }
     thread::for_each_mut(
         rt,
         workers,
@@ -53,9 +55,11 @@ fn split_all(
     workers: &mut Vec<Worker>,
     actors: u32,
 )
-    requires pass { IsPassOf turnstile.now first.old × (known first.old ≡ first_known actors tt) }
+    requires pass { IsPassOf turnstile.now first.old }
+    requires new { (o : ℕ) × (known first.old ≡ first_known actors o) }
     requires room { (workers.old.items ≡ []) × (actors ≤ vec_capacity workers.old) }
     ensures pass { IsPassOf turnstile.now first.new × Leads actors (known first.new) × ((known first.new).joined ≡ []) }
+    ensures opening { (known first.new).opening ≡ (known first.old).opening }
     ensures crew { (vec_len workers.new ≡ actors) × AreFresh turnstile.now workers.new.items × IsManned (known first.new) actors }
 {
     for actor in 0..actors {
@@ -78,6 +82,7 @@ fn join_all(
     requires pass { IsPassOf turnstile.now first.old × Leads (vec_len workers) (known first.old) × ((known first.old).joined ≡ []) }
     requires crew { AreBack turnstile.now _turns workers.items × IsManned (known first.old) (vec_len workers) }
     ensures pass { IsPassOf turnstile.now first.new × Leads (vec_len workers) (known first.new) }
+    ensures opening { (known first.new).opening ≡ (known first.old).opening }
     ensures all { AllJoined (known first.new) }
     ensures counted { AreCounted (vec_len workers) _turns result (known first.new) }
 {
@@ -95,22 +100,22 @@ fn join_all(
     all
 }
 
-/// Each of so many threads, numbered from 0, adds the numbers below `turns` in order. The error is want of memory alone.
+/// Each of so many threads, numbered from 0, adds the numbers below `turns` in order, each with this effort. The error is want of memory alone.
 pub fn gathered<R: Threads + Wait + Sync>(
     rt: &R,
     alloc: Global,
     actors: u32,
     turns: u32,
+    effort: u32,
 ) -> Result<Tally, AllocError>
-    requires { 0 < actors }
-    ensures { IfOk result (λ tally. IsGathered actors turns tally.pairs.items) }
+    ensures { IfOk result (λ tally. (tally.effort ≡ effort) × IsGathered actors turns tally.pairs.items) }
 {
     let mut workers: Vec<Worker> = Vec::new(alloc);
     if workers.reserve(actors as usize).is_err() {
         workers.destroy_empty();
         return Err(AllocError);
     }
-    let (turnstile, mut first) = match Turnstile::new(alloc, Tally::new(alloc), actors) {
+    let (turnstile, mut first) = match Turnstile::new(alloc, Tally::new(alloc, effort), actors) {
         Ok(pair) => pair,
         Err(_) => {
             workers.destroy_empty();

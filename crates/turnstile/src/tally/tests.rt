@@ -4,7 +4,7 @@ use std::test::Fail;
 #[test]
 fn each_thread_adds_its_numbers_in_order(rt: HostRuntime) -> Result<(), Fail> {
     for (actors, turns) in [(2u32, 3u32), (1, 1), (3, 0), (66, 1000)] {
-        let tally = gathered(&rt, rt.alloc(), actors, turns)?;
+        let tally = gathered(&rt, rt.alloc(), actors, turns, 1)?;
         let mut next = [0u32; 66];
         for (actor, number) in &tally.pairs {
             let at = *actor as usize;

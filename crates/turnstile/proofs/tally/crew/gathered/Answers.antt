@@ -1,4 +1,4 @@
-use Rattle.std.proofs.Common.{rules, ◌≡◌, ℕ, Bool, length, sym, subst}
+use Rattle.std.proofs.Common.{rules, ◌≡◌, ℕ, Bool, Some, length, sym, ap, ◌∙◌, subst}
 use Rattle.turnstile.specs.Passes.{known}
 use Rattle.turnstile.specs.Crew.{AreBack, Leads, IsManned, AreCounted}
 use Rattle.turnstile.proofs.Crews.{lent_whole, gathers}
@@ -11,12 +11,17 @@ join_all-all-requires-clause-crew g c =
     let n : length new ≡ old.len = search rules in
     let m : length old.items ≡ old.len = search rules in
     let crew = c.split_all.ensures.crew in
-    (subst (AreBack c.in-Ok.pair.0 c.args.turns) (sym (lent_whole old.len new old.items n m)) c.run.ensures.passes, subst (IsManned (known c.split_all.new.first)) (sym crew.0) crew.2)
+    (subst (AreBack c.in-Ok.pair.0 c.args.turns) (sym (lent_whole old.len new old.items n m)) c.run.ensures, subst (IsManned (known c.split_all.new.first)) (sym crew.0) crew.2)
 
 pub returns-then-all : goal.returns-then-all
 returns-then-all g c =
     let k = known c.join_all-all.new.first in
     let j = c.join_all-all.ensures in
     let actors = c.split_all.ensures.crew.0 in
-    gathers c.args.actors c.args.turns k c.close-tally.result (subst (λ (n : ℕ). Leads n k) actors j.pass.1) j.all
-    (subst (λ (y : ℕ × Bool). AreCounted y.0 c.args.turns y.1 k) (λ i. (actors i, c.if-all.true i)) j.counted) c.close-tally.ensures
+    let starts : (known c.in-Ok.pair.1).opening ≡ Some c.new.result.effort = search rules in
+    let same : Some c.close-tally.result.effort ≡ Some c.args.effort = sym c.close-tally.ensures.opening ∙ (j.opening ∙ (c.split_all.ensures.opening ∙ (starts ∙ ap Some c.new.ensures.effort))) in
+    let effort : c.close-tally.result.effort ≡ c.args.effort = cc in (
+      effort,
+      gathers c.args.actors c.args.turns k c.close-tally.result (subst (λ (n : ℕ). Leads n k) actors j.pass.1) j.all
+          (subst (λ (y : ℕ × Bool). AreCounted y.0 c.args.turns y.1 k) (λ i. (actors i, c.if-all.true i)) j.counted) c.close-tally.ensures,
+    )

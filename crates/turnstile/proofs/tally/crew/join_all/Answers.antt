@@ -26,6 +26,7 @@ loop-worker-preserved c =
     let few = i.few in record {
       pass = c.join.ensures.pass.0;
       leads = leads_join _ k o _ i.leads c.join.ensures.pass.1;
+      opening = ap (λ z. z.opening) c.join.ensures.pass.1 ∙ i.opening;
       crew = each_pop at left w crew;
       few = omega arith;
       manned = manned_join k o _ _ _ i.manned count here c.join.ensures.pass.1;

@@ -1,4 +1,4 @@
-use Rattle.std.proofs.Common.{◌≤◌, vec_len}
+use Rattle.std.proofs.Common.{◌≡◌, ◌≤◌, vec_len}
 use Rattle.turnstile.specs.Passes.{known, IsPassOf}
 use Rattle.turnstile.specs.Crew.{AreBack, Leads, IsManned, AreCounted}
 use Rattle.turnstile.proofs.tally.crew.join_all.Given as goal
@@ -7,6 +7,7 @@ abbrev pub invariant-loop-worker : goal.invariant-loop-worker
 invariant-loop-worker l = record {
   pass : IsPassOf l.turnstile l.first;
   leads : Leads (vec_len l.initial.workers) (known l.first);
+  opening : (known l.first).opening ≡ (known l.initial.first).opening;
   crew : AreBack l.turnstile l._turns l.workers.items;
   few : vec_len l.workers ≤ vec_len l.initial.workers;
   manned : IsManned (known l.first) (vec_len l.workers);

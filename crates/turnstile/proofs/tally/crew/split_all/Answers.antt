@@ -23,6 +23,7 @@ loop-actor-preserved c =
     let fresh : IsFresh turnstile w = (record { pass = s.new.0; actor = ap (λ z. z.actor) s.new.1; first = ap (λ z. z.first) s.new.1 }, ap (λ z. z.own) s.new.1) in record {
       pass = s.pass.0;
       made = split_more _ _ _ _ i.made s.pass.1;
+      opening = ap (λ z. z.opening) s.pass.1 ∙ i.opening;
       count = search rules;
       room = search rules;
       crew = subst (AreFresh turnstile) (sym items) (each_push at c.loop-actor.workers.items w i.crew (fresh, sym place));

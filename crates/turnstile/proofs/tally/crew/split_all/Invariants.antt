@@ -8,6 +8,7 @@ abbrev pub invariant-loop-actor : goal.invariant-loop-actor
 invariant-loop-actor l = record {
   pass : IsPassOf l.turnstile l.first;
   made : HasSplit l.actors l.actor (known l.first);
+  opening : (known l.first).opening ≡ (known l.initial.first).opening;
   count : vec_len l.workers ≡ l.actor;
   room : l.actors ≤ vec_capacity l.workers;
   crew : AreFresh l.turnstile l.workers.items;
