@@ -1,15 +1,16 @@
 -- What a call leaves of the images, by what is held before and after it.
 use Rattle.std.proofs.Common.{◌≡◌, ℕ, ◌<◌, ◌≤◌, Bool, true, false, ◌&&◌, List, [], ◌∷◌, ◌++◌, length, refl, sym, ◌∙◌, ap, subst, arith}
-use Rattle.std.specs.Prelude.{nat_le, Result, Ok, Err, OnOk, OnErr}
+use Rattle.std.specs.Prelude.{nat_le, Result, Ok, Err, OnOk, OnErr, IfOk, Some}
 use Rattle.std.specs.List.{list_all}
 use Rattle.std.proofs.lemmas.Grind.{common_steps}
 use Rattle.aq_disk.specs.Disk.{Torn, Only, Follows, Allows, Keeps, SameImages, KeepsEarlier}
-use Rattle.aq_disk.specs.Kept.{all_filled, up_to, since_sync, synced, Tears, IsLeft, IsImageAfter, AddsWrite}
+use Rattle.aq_disk.specs.Kept.{all_filled, up_to, since_sync, synced, Tears, IsLeft, IsImageAfter, image_after, AddsWrite}
 use Rattle.aq_disk.specs.Held.{SameHeld}
-use Rattle.aq_disk.specs.Left.{torn_none, up_to_all, all_filled-append}
+use Rattle.aq_disk.specs.Left.{torn_none, up_to_all, all_filled-append, image_new}
 use Rattle.aq_disk.specs.declared.held.Held.{Held}
 use Rattle.aq_disk.specs.declared.kept.Kept.{Kept}
 use Rattle.aq_disk.specs.declared.kept.Step.TheVariants.{Write, Sync}
+use Rattle.aq_disk.specs.declared.kept.Fill.{Fill}
 use Rattle.aq_disk.specs.declared.kept.Fill.TheVariants.{New}
 use Rattle.aq_disk.proofs.Pushed.{up_to_push, since_push, since_push_sync, until_push, until_push_sync}
 
@@ -20,6 +21,10 @@ on_ok (Err e) P p = tt
 pub on_err : {T E : Type 0} (r : Result T E) (P : Type 0) → P → OnErr r P
 on_err (Ok x) P p = tt
 on_err (Err e) P p = p
+
+pub if_ok_more : {T E : Type 0} (r : Result T E) (P Q : T → Type 0) → ((x : T) → P x → Q x) → IfOk r P → IfOk r Q
+if_ok_more (Ok x) P Q f p = f x p
+if_ok_more (Err e) P Q f p = tt
 
 -- the images that a held disk has at a call number
 abbrev pub images : Held → ℕ → List ℕ → Type 0
@@ -180,3 +185,11 @@ module _ (old new : Held) (calls calls' : ℕ) (numbers : numbered calls old.kep
 
     pub sync_earlier : KeepsEarlier calls (images old) (images new)
     sync_earlier = kept_earlier (record { call = calls'; step = Sync }) refl adds
+
+-- with each range as written, the image of the last call is what a read gives
+pub image_read : (held : Held) (calls call : ℕ) (fill : Fill) (image : List ℕ) → numbered calls held.kept.items → image ≡ image_after fill held.start.items (up_to call held.kept.items) → fill ≡ New → call ≡ calls
+    → Some held.bytes.items ≡ Some image
+image_read held calls call fill image numbers is new last =
+    let all : up_to call held.kept.items ≡ held.kept.items = up_to_all calls call held.kept.items numbers (omega (arith, last)) in
+    ap Some (held.as_kept ∙ sym (image_new held.start.items held.kept.items) ∙ sym (ap (λ (f : Fill). image_after f held.start.items held.kept.items) new)
+    ∙ sym (ap (image_after fill held.start.items) all) ∙ sym is)

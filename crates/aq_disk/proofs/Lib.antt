@@ -2,3 +2,4 @@ mod Calls
 mod HeldSteps
 pub mod Moments
 mod Pushed
+pub mod Writes

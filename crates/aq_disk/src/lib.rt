@@ -10,6 +10,8 @@ mod kept;
 mod memory;
 mod replay;
 mod synced;
+#[cfg(test)]
+mod tests;
 
 pub use device::{Disk, Failed, LENGTH_LIMIT};
 pub use file::FileDisk;

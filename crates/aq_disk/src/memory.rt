@@ -26,6 +26,7 @@ impl MemoryDisk {
     ghost use Rattle.aq_disk.specs.Kept.{AddsWrite};
     ghost use Rattle.aq_disk.specs.Held.{SameHeld};
     ghost use Rattle.aq_disk.specs.Memory.{image_of};
+    ghost use Rattle.aq_disk.specs.declared.kept.Fill.TheVariants.{New};
 
     /// A disk of these bytes, all of them synced. Its calls of the listed numbers fail, and all calls past the
     /// fuse. A growth that finds no memory is a fault. Bytes past the limit of a disk find no memory.
@@ -53,11 +54,13 @@ impl MemoryDisk {
     }
 
     /// One of the images that a crash may leave at a call number: the bytes at the last sync up to it that
-    /// succeeded, with each range that was written since as the fill says.
+    /// succeeded, with each range that was written since as the fill says. With the ranges as written, the image of
+    /// the last call is what a read gives.
     pub fn image(&self, alloc: Global, call: u64, fill: Fill) -> Result<Vec<u8>, AllocError>
         requires { call ≤ ⟦<MemoryDisk as Disk>⟧.calls self.now }
         ensures bytes { IfOk result (λ image. image.items ≡ image_of self.now call fill) }
         ensures image { IfOk result (λ image. ⟦<MemoryDisk as Disk>⟧.is_image self.now call image.items) }
+        ensures read { IfOk result (λ image. fill ≡ New → call ≡ ⟦<MemoryDisk as Disk>⟧.calls self.now → ⟦<MemoryDisk as Disk>⟧.seen self.now ≡ Some image.items) }
     {
         self.held.image(alloc, call, fill)
     }
