@@ -1,0 +1,5 @@
+pub mod Form
+pub mod Line
+pub mod Member
+pub mod Script
+pub mod Statement

@@ -1,0 +1,47 @@
+-- What one line says.
+use Rattle.std.specs.Prelude.{ℕ, ◌||◌, ◌==◌, nat_le, List, length, codes, Bool, Option, Some, None, is_some, option_map, option_and_then, if◌then◌else◌}
+use Rattle.std.specs.List.{list_all}
+use Rattle.std.specs.Str.{is_utf8}
+use Rattle.serde_json.specs.Data.{Data}
+use Rattle.serde_json.specs.Find.{get}
+use Rattle.serde_json.specs.Read.{read}
+use Rattle.aq_base.specs.declared.DbId.{DbId}
+use Rattle.aq_base.specs.declared.TheConstants.{LINE_LIMIT}
+use Rattle.queue_rows.specs.Built.{IsBuilt}
+use Rattle.script_text.specs.declared.form.Form.TheVariants.{Declaration}
+use Rattle.script_text.specs.declared.line.Line.{Line}
+use Rattle.script_text.specs.declared.line.Line.TheVariants as lines
+use Rattle.script_text.specs.Form.{has_form, some_if}
+use Rattle.script_text.specs.Member.{name_at, session_at, place_at, is_place_built}
+use Rattle.script_text.specs.Statement.{statement}
+
+-- the JSON value that a line is
+abbrev pub json_of : List ℕ → Option Data
+json_of line = if is_utf8 line then read line else None
+
+-- a space, a tab or a carriage return
+abbrev pub is_blank : ℕ → Bool
+is_blank byte = byte == 32 || byte == 9 || byte == 13
+
+abbrev pub built_place : DbId → Option DbId
+built_place place = some_if (is_place_built place) place
+
+unfoldable pub declaration : Data → Option Line
+declaration d = option_and_then (λ name. option_map (λ at. lines.Declared name at) (option_and_then built_place (place_at d))) (session_at d)
+
+unfoldable pub asking : Data → Option Line
+asking d = option_and_then (λ session. option_map (λ asked. lines.Asked session asked) (statement d)) (name_at (codes "s") d)
+
+-- a line with a member for a session's name declares it, and any other one has a session ask a statement
+unfoldable pub line_from : Data → Option Line
+line_from d = if is_some (get (codes "session") d) then (if has_form Declaration d then declaration d else None) else asking d
+
+-- a line, without its line feed
+unfoldable pub line_of : List ℕ → Option Line
+line_of line = if nat_le (length line) LINE_LIMIT then (if list_all is_blank line then Some lines.Blank else option_and_then line_from (json_of line)) else None
+
+-- what a line asks has a meaning so far
+abbrev pub IsBuiltLine : Line → Type 0
+IsBuiltLine lines.Blank = Unit {0}
+IsBuiltLine (lines.Declared name at) = Unit {0}
+IsBuiltLine (lines.Asked session asked) = IsBuilt asked

@@ -1,0 +1,39 @@
+-- The statement that a line asks.
+use Rattle.std.specs.Prelude.{[], ◌∷◌, codes, true, false, Option, None, option_map, option_and_then, if◌then◌else◌}
+use Rattle.serde_json.specs.Data.{Data}
+use Rattle.place_keys.specs.declared.sort_list.Column.TheVariants.{EnqTime}
+use Rattle.queue_rows.specs.declared.rows.QueueKind.TheVariants.{Normal}
+use Rattle.queue_rows.specs.declared.statement.Statement.{Statement}
+use Rattle.queue_rows.specs.declared.statement.Statement.TheVariants as statements
+use Rattle.queue_rows.specs.declared.statement.Admin.TheVariants as asks
+use Rattle.script_text.specs.declared.form.Verb.{Verb}
+use Rattle.script_text.specs.declared.form.Verb.TheVariants as verbs
+use Rattle.script_text.specs.declared.form.Form.TheVariants.{Asking}
+use Rattle.script_text.specs.Form.{verb_of, has_form}
+use Rattle.script_text.specs.Member.{text_at, name_at, table_at, fields_at}
+
+-- sorted by the moment of the enqueue, for one consumer, and with no groups
+unfoldable pub create_table : Data → Option Statement
+create_table d = option_and_then (λ table. option_map (λ fields. statements.Admin (asks.CreateTable table fields (EnqTime ∷ []) false false)) (fields_at d)) (table_at d)
+
+-- a normal queue with five retries, no delay before each and no retention
+unfoldable pub create_queue : Data → Option Statement
+create_queue d = option_and_then (λ queue. option_map (λ table. statements.Admin (asks.CreateQueue queue table Normal 5 0 0)) (table_at d)) (name_at (codes "queue") d)
+
+-- it gives messages, and takes them where it is a normal queue
+unfoldable pub start_queue : Data → Option Statement
+start_queue d = option_map (λ queue. statements.Admin (asks.StartQueue queue None true)) (name_at (codes "queue") d)
+
+abbrev pub statement_of : Verb → Data → Option Statement
+statement_of verbs.CreateTable d = create_table d
+statement_of verbs.CreateQueue d = create_queue d
+statement_of verbs.StartQueue d = start_queue d
+statement_of verbs.Enqueue d = None
+statement_of verbs.Dequeue d = None
+
+-- a statement has no members but its own
+abbrev pub statement_if : Data → Verb → Option Statement
+statement_if d verb = if has_form (Asking verb) d then statement_of verb d else None
+
+unfoldable pub statement : Data → Option Statement
+statement d = option_and_then (statement_if d) (option_and_then verb_of (text_at (codes "do") d))

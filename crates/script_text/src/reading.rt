@@ -1,0 +1,74 @@
+// A whole script.
+ghost use Rattle.std.specs.Prelude.{◌≡◌, ◌≤◌, ◌<◌, ◌+◌, [], ◌∷◌, IfOk, IfErr, IfSome, Ok, length, position, option_map};
+ghost use Rattle.script_text.specs.Script.{is_line_feed, lines_of, lines_left, room_of, with_lines, script, line_feeds, IsFaultOf, AreWithinLimits};
+ghost use Rattle.aq_base.specs.declared.TheConstants.{INPUT_LIMIT};
+
+use crate::fault::{LineFault, ScriptFault};
+use crate::sessions::Sessions;
+use aq_base::INPUT_LIMIT;
+use payload_records::List;
+use queue_rows::SessionScript;
+use std::alloc::Global;
+
+fn line_end(text: &[u8]) -> Option<usize>
+    ensures end { result ≡ position is_line_feed text.now }
+    ensures within { IfSome result (λ at. at < length text.now) }
+{
+    text.iter().position(|byte| *byte == b'\n')
+}
+
+/// The first line of a text, and what stands behind its line feed if it has one.
+fn cut_line(text: &[u8]) -> (&[u8], Option<&[u8]>)
+    ensures lines { lines_of text.now ≡ result.0.now ∷ lines_left (option_map (λ rest. rest.now) result.1) }
+    ensures shorter { room_of (option_map (λ rest. rest.now) result.1) ≤ length text.now }
+{
+    match line_end(text) {
+        Some(at) => (&text[..at], Some(&text[at + 1..])),
+        None => (text, None),
+    }
+}
+
+fn read_lines(alloc: Global, bytes: &[u8]) -> Result<Sessions, ScriptFault>
+    requires { length bytes.now ≤ INPUT_LIMIT }
+    ensures ok { IfOk result (λ sessions. with_lines 1 [] (lines_of bytes.now) ≡ Ok sessions) }
+    ensures bad { IfErr result (λ fault. IsFaultOf fault (with_lines 1 [] (lines_of bytes.now))) }
+{
+    let mut sessions = Sessions::new(alloc);
+    let mut number = 1u64;
+    let mut rest = Some(bytes);
+    while let Some(text) = rest {
+        let (line, behind) = cut_line(text);
+        match sessions.add_line(alloc, line) {
+            Ok(()) => {}
+            Err(LineFault::Bad) => return Err(ScriptFault::Bad { line: number }),
+            Err(LineFault::Memory) => return Err(ScriptFault::Memory),
+        }
+        number += 1;
+        rest = behind;
+    }
+    Ok(sessions)
+}
+
+fn count_line_feeds(bytes: &[u8]) -> u64
+    ensures count { result ≡ line_feeds bytes.now }
+    ensures within { result ≤ length bytes.now }
+{
+    bytes.iter().filter(|byte| **byte == b'\n').count() as u64
+}
+
+/// Reads a script. `Bad` tells its first bad line, and comes exactly where it is none.
+///
+/// A text that is longer than an input may be is bad at the line of the first byte too many, whatever stands before;
+/// so a caller that has read one byte more than the limit need read no further.
+#[tactic(auto, unfolding(crate::specs::Script::script))]
+pub fn read(alloc: Global, bytes: &[u8]) -> Result<List<SessionScript>, ScriptFault>
+    ensures ok { IfOk result (λ sessions. script bytes.now ≡ Ok sessions) }
+    ensures bad { IfErr result (λ fault. IsFaultOf fault (script bytes.now)) }
+    ensures within { IfOk result AreWithinLimits }
+{
+    if bytes.len() > INPUT_LIMIT {
+        let line = 1 + count_line_feeds(&bytes[..INPUT_LIMIT]);
+        return Err(ScriptFault::Bad { line });
+    }
+    Ok(read_lines(alloc, bytes)?.into_list())
+}

@@ -1,0 +1,134 @@
+// The sessions of a script, as its lines make them one after the other.
+ghost use Rattle.std.specs.Prelude.{◌≡◌, ◌≤◌, ◌<◌, [], position, length, slice_get, slice_set, option_and_then, IfSome, OnOk, OnErr, IsErrOf, Some, None};
+ghost use Rattle.queue_rows.specs.Built.{IsBuilt};
+ghost use Rattle.script_text.specs.Line.{line_of, IsBuiltLine};
+ghost use Rattle.script_text.specs.Script.{is_of, with_session, with_statement, with_statement_at, with_statement_of, with_line, AreWithinLimits, IsBuiltScript};
+
+use crate::fault::LineFault;
+use crate::line::{Line, read_line};
+use crate::{SESSION_LIMIT, STATEMENT_LIMIT};
+use aq_base::DbId;
+use payload_records::{List, Name};
+use queue_rows::{SessionScript, Statement};
+use std::alloc::{AllocError, Global};
+use std::marker::Model;
+
+/// The sessions that were declared so far, each with what it asks, and how many statements that is together.
+#[derive(Drop)]
+pub struct Sessions {
+    list: Vec<SessionScript>,
+    asked: usize,
+}
+
+impl Model for Sessions {
+    ghost use Rattle.std.specs.Prelude.{◌≡◌, List as Sequence};
+    ghost use Rattle.queue_rows.specs.declared.history.SessionScript.{SessionScript};
+    ghost use Rattle.script_text.specs.Script.{statement_count, AreWithinLimits};
+
+    ghost Value = { Sequence SessionScript };
+
+    ghost view = { λ s. s.list.items };
+
+    ghost invariant = { λ s. (s.asked ≡ statement_count s.list.items) × AreWithinLimits s.list.items };
+}
+
+fn index_of(sessions: &[SessionScript], name: &Name) -> Option<usize>
+    ensures index { result ≡ position (is_of name.now) sessions.now }
+    ensures within { IfSome result (λ at. at < length sessions.now) }
+{
+    sessions
+        .iter()
+        .position(|session| session.name.as_str() == name.as_str())
+}
+
+fn push_statement(session: &mut SessionScript, statement: Statement) -> Result<(), AllocError>
+    ensures ok { OnOk result (session.new ≡ with_statement statement session.old) }
+    ensures err { OnErr result (session.new ≡ session.old) }
+{
+    session.statements.push(statement)
+}
+
+fn push_statement_at(
+    sessions: &mut [SessionScript],
+    at: usize,
+    statement: Statement,
+) -> Result<(), AllocError>
+    requires { at < length sessions.old }
+    ensures ok { OnOk result (sessions.new ≡ with_statement_at statement sessions.old at) }
+    ensures err { OnErr result (sessions.new ≡ sessions.old) }
+{
+    push_statement(&mut sessions[at], statement)
+}
+
+impl Sessions {
+    /// No session.
+    pub fn new(alloc: Global) -> Sessions
+        ensures { result ≡ [] }
+    {
+        Sessions {
+            list: Vec::new(alloc),
+            asked: 0,
+        }
+    }
+
+    fn declare(&mut self, name: Name, at: DbId) -> Result<(), LineFault>
+        ensures ok { OnOk result (with_session name at self.old ≡ Some self.new) }
+        ensures bad { IsErrOf result LineFault.Bad → with_session name at self.old ≡ None }
+    {
+        if self.list.len() >= SESSION_LIMIT || index_of(&self.list, &name).is_some() {
+            return Err(LineFault::Bad);
+        }
+        let statements = List::new(*self.list.allocator());
+        self.list.push(SessionScript {
+            name,
+            at,
+            statements,
+        })?;
+        Ok(())
+    }
+
+    fn ask(&mut self, name: &Name, statement: Statement) -> Result<(), LineFault>
+        requires { IsBuilt statement }
+        ensures ok { OnOk result (with_statement_of name.now statement self.old ≡ Some self.new) }
+        ensures bad { IsErrOf result LineFault.Bad → with_statement_of name.now statement self.old ≡ None }
+    {
+        if self.asked >= STATEMENT_LIMIT {
+            return Err(LineFault::Bad);
+        }
+        let Some(at) = index_of(&self.list, name) else {
+            return Err(LineFault::Bad);
+        };
+        push_statement_at(&mut self.list, at, statement)?;
+        self.asked += 1;
+        Ok(())
+    }
+
+    fn add(&mut self, line: Line) -> Result<(), LineFault>
+        requires { IsBuiltLine line }
+        ensures ok { OnOk result (with_line self.old line ≡ Some self.new) }
+        ensures bad { IsErrOf result LineFault.Bad → with_line self.old line ≡ None }
+    {
+        match line {
+            Line::Blank => Ok(()),
+            Line::Declared { name, at } => self.declare(name, at),
+            Line::Asked { session, statement } => self.ask(&session, statement),
+        }
+    }
+
+    /// Takes one more line in, which is given without its line feed.
+    pub fn add_line(&mut self, alloc: Global, line: &[u8]) -> Result<(), LineFault>
+        ensures ok { OnOk result (option_and_then (with_line self.old) (line_of line.now) ≡ Some self.new) }
+        ensures bad { IsErrOf result LineFault.Bad → option_and_then (with_line self.old) (line_of line.now) ≡ None }
+    {
+        let line = read_line(alloc, line)?;
+        self.add(line)
+    }
+
+    /// The sessions in the order in which they were declared.
+    pub fn into_list(self) -> List<SessionScript>
+        ensures list { result ≡ self }
+        ensures within { AreWithinLimits self }
+    {
+        List::from_vec(self.list)
+    }
+}

@@ -1,0 +1,104 @@
+// The statement that a line asks.
+ghost use Rattle.std.specs.Prelude.{◌≡◌, IfOk, IsErrOf, Some, None, codes, option_and_then};
+ghost use Rattle.serde_json.specs.View.{view};
+ghost use Rattle.queue_rows.specs.Built.{IsBuilt};
+ghost use Rattle.script_text.specs.Form.{verb_of};
+ghost use Rattle.script_text.specs.Member.{text_at};
+ghost use Rattle.script_text.specs.Statement.{create_table, create_queue, start_queue, statement_of, statement};
+
+use crate::fault::LineFault;
+use crate::form::{Form, Verb, has_form, verb_of};
+use crate::member::{fields_at, name_at, table_at, text_at};
+use place_keys::SortList;
+use queue_rows::{Admin, QueueKind, Statement};
+use serde_json::Value;
+use std::alloc::Global;
+
+/// How often a removal may be rolled back, where nothing is said.
+const MAX_RETRIES: u64 = 5;
+
+#[tactic(auto, unfolding(crate::specs::Statement::create_table))]
+fn create_table(alloc: Global, value: &Value) -> Result<Statement, LineFault>
+    ensures ok { IfOk result (λ s. create_table (view value.now) ≡ Some s) }
+    ensures built { IfOk result IsBuilt }
+    ensures bad { IsErrOf result LineFault.Bad → create_table (view value.now) ≡ None }
+{
+    let table = table_at(alloc, value)?;
+    let fields = fields_at(alloc, value)?;
+    let sort = SortList::by_enqueue_time(alloc)?;
+    Ok(Statement::Admin(Admin::CreateTable {
+        table,
+        fields,
+        sort,
+        multi: false,
+        grouped: false,
+    }))
+}
+
+#[tactic(auto, unfolding(crate::specs::Statement::create_queue))]
+fn create_queue(alloc: Global, value: &Value) -> Result<Statement, LineFault>
+    ensures ok { IfOk result (λ s. create_queue (view value.now) ≡ Some s) }
+    ensures built { IfOk result IsBuilt }
+    ensures bad { IsErrOf result LineFault.Bad → create_queue (view value.now) ≡ None }
+{
+    let queue = name_at(alloc, value, "queue")?;
+    let table = table_at(alloc, value)?;
+    Ok(Statement::Admin(Admin::CreateQueue {
+        queue,
+        table,
+        kind: QueueKind::Normal,
+        max_retries: MAX_RETRIES,
+        retry_delay: 0,
+        retention: 0,
+    }))
+}
+
+#[tactic(auto, unfolding(crate::specs::Statement::start_queue))]
+fn start_queue(alloc: Global, value: &Value) -> Result<Statement, LineFault>
+    ensures ok { IfOk result (λ s. start_queue (view value.now) ≡ Some s) }
+    ensures built { IfOk result IsBuilt }
+    ensures bad { IsErrOf result LineFault.Bad → start_queue (view value.now) ≡ None }
+{
+    let queue = name_at(alloc, value, "queue")?;
+    Ok(Statement::Admin(Admin::StartQueue {
+        queue,
+        enqueue: None,
+        dequeue: true,
+    }))
+}
+
+fn statement_of(alloc: Global, verb: Verb, value: &Value) -> Result<Statement, LineFault>
+    ensures ok { IfOk result (λ s. statement_of verb (view value.now) ≡ Some s) }
+    ensures built { IfOk result IsBuilt }
+    ensures bad { IsErrOf result LineFault.Bad → statement_of verb (view value.now) ≡ None }
+{
+    match verb {
+        Verb::CreateTable => create_table(alloc, value),
+        Verb::CreateQueue => create_queue(alloc, value),
+        Verb::StartQueue => start_queue(alloc, value),
+        Verb::Enqueue => Err(LineFault::Bad),
+        Verb::Dequeue => Err(LineFault::Bad),
+    }
+}
+
+fn verb_at(value: &Value) -> Option<Verb>
+    ensures { result ≡ option_and_then verb_of (text_at (codes "do") (view value.now)) }
+{
+    verb_of(text_at(value, "do")?)
+}
+
+/// The statement that a line asks.
+#[tactic(auto, unfolding(crate::specs::Statement::statement))]
+pub fn statement_at(alloc: Global, value: &Value) -> Result<Statement, LineFault>
+    ensures ok { IfOk result (λ s. statement (view value.now) ≡ Some s) }
+    ensures built { IfOk result IsBuilt }
+    ensures bad { IsErrOf result LineFault.Bad → statement (view value.now) ≡ None }
+{
+    let Some(verb) = verb_at(value) else {
+        return Err(LineFault::Bad);
+    };
+    if !has_form(Form::Asking(verb), value) {
+        return Err(LineFault::Bad);
+    }
+    statement_of(alloc, verb, value)
+}
