@@ -5,14 +5,13 @@ use Rattle.std.specs.Str.{is_utf8}
 use Rattle.serde_json.specs.Data.{Data}
 use Rattle.serde_json.specs.Find.{get}
 use Rattle.serde_json.specs.Read.{read}
-use Rattle.aq_base.specs.declared.DbId.{DbId}
-use Rattle.aq_base.specs.declared.TheConstants.{LINE_LIMIT}
+use Rattle.aq_base.specs.declared.limits.TheConstants.{LINE_LIMIT}
 use Rattle.queue_rows.specs.Built.{IsBuilt}
 use Rattle.script_text.specs.declared.form.Form.TheVariants.{Declaration}
 use Rattle.script_text.specs.declared.line.Line.{Line}
 use Rattle.script_text.specs.declared.line.Line.TheVariants as lines
-use Rattle.script_text.specs.Form.{has_form, some_if}
-use Rattle.script_text.specs.Member.{name_at, session_at, place_at, is_place_built}
+use Rattle.script_text.specs.Form.{has_form}
+use Rattle.script_text.specs.Member.{name_at, session_at, place_at}
 use Rattle.script_text.specs.Statement.{statement}
 
 -- the JSON value that a line is
@@ -23,11 +22,8 @@ json_of line = if is_utf8 line then read line else None
 abbrev pub is_blank : ℕ → Bool
 is_blank byte = byte == 32 || byte == 9 || byte == 13
 
-abbrev pub built_place : DbId → Option DbId
-built_place place = some_if (is_place_built place) place
-
 unfoldable pub declaration : Data → Option Line
-declaration d = option_and_then (λ name. option_map (λ at. lines.Declared name at) (option_and_then built_place (place_at d))) (session_at d)
+declaration d = option_and_then (λ name. option_map (λ at. lines.Declared name at) (place_at d)) (session_at d)
 
 unfoldable pub asking : Data → Option Line
 asking d = option_and_then (λ session. option_map (λ asked. lines.Asked session asked) (statement d)) (name_at (codes "s") d)

@@ -1,5 +1,5 @@
 -- The members of a line, each with what it may hold.
-use Rattle.std.specs.Prelude.{ℕ, ◌||◌, nat_le, List, length, codes, Bool, true, false, Option, Some, None, option_and_then, if◌then◌else◌}
+use Rattle.std.specs.Prelude.{ℕ, ◌||◌, nat_le, List, length, codes, Bool, true, false, Option, Some, None, option_map, option_and_then, if◌then◌else◌}
 use Rattle.std.specs.Str.{bytes_eq}
 use Rattle.serde_json.specs.Data.{Data}
 use Rattle.serde_json.specs.Find.{get, as_str}
@@ -7,10 +7,13 @@ use Rattle.aq_base.specs.declared.DbId.{DbId}
 use Rattle.aq_base.specs.declared.DbId.TheVariants.{Home, Away}
 use Rattle.payload_records.specs.Name.{is_name}
 use Rattle.payload_records.specs.Kind.{record_type}
+use Rattle.payload_records.specs.Payload.{payload_of}
 use Rattle.payload_records.specs.declared.kind.Field.{Field}
+use Rattle.payload_records.specs.declared.payload.Payload.{Payload}
 use Rattle.queue_rows.specs.declared.statement.Visibility.{Visibility}
 use Rattle.queue_rows.specs.declared.statement.Visibility.TheVariants.{OnCommit, Immediate}
-use Rattle.script_text.specs.declared.TheConstants.{TABLE_NAME_LIMIT}
+use Rattle.aq_base.specs.declared.limits.TheConstants.{TABLE_NAME_LIMIT}
+use Rattle.script_text.specs.Form.{some_if}
 
 abbrev pub text_at : List ℕ → Data → Option (List ℕ)
 text_at key d = option_and_then as_str (get key d)
@@ -43,26 +46,37 @@ as_session name = if is_reserved name then None else Some name
 abbrev pub session_at : Data → Option (List ℕ)
 session_at d = option_and_then as_session (name_at (codes "session") d)
 
-abbrev pub as_place : List ℕ → Option DbId
-as_place text = if bytes_eq text (codes "home") then Some Home else (if bytes_eq text (codes "away") then Some Away else None)
-
-abbrev pub place_at : Data → Option DbId
-place_at d = option_and_then as_place (text_at (codes "at") d)
+abbrev pub place_of : List ℕ → Option DbId
+place_of text = if bytes_eq text (codes "home") then Some Home else (if bytes_eq text (codes "away") then Some Away else None)
 
 -- the databases at which sessions can be declared so far
 abbrev pub is_place_built : DbId → Bool
 is_place_built Home = true
 is_place_built Away = false
 
--- ---- visibility
+abbrev pub built_place : DbId → Option DbId
+built_place place = some_if (is_place_built place) place
 
-abbrev pub as_visibility : List ℕ → Option Visibility
-as_visibility text = if bytes_eq text (codes "on_commit") then Some OnCommit else (if bytes_eq text (codes "immediate") then Some Immediate else None)
+abbrev pub place_at : Data → Option DbId
+place_at d = option_and_then built_place (option_and_then place_of (text_at (codes "at") d))
 
-abbrev pub visibility_at : Data → Option Visibility
-visibility_at d = option_and_then as_visibility (text_at (codes "visibility") d)
+-- ---- messages
+
+-- any value at all, null too
+abbrev pub payload_at : Data → Option Payload
+payload_at d = option_map payload_of (get (codes "payload") d)
+
+abbrev pub visibility_of : List ℕ → Option Visibility
+visibility_of text = if bytes_eq text (codes "on_commit") then Some OnCommit else (if bytes_eq text (codes "immediate") then Some Immediate else None)
 
 -- the visibilities that have a meaning so far
 abbrev pub is_visibility_built : Visibility → Bool
 is_visibility_built OnCommit = false
 is_visibility_built Immediate = true
+
+abbrev pub built_visibility : Visibility → Option Visibility
+built_visibility visibility = some_if (is_visibility_built visibility) visibility
+
+-- it must be given, as long as the one that is meant where nothing is said has no meaning
+abbrev pub visibility_at : Data → Option Visibility
+visibility_at d = option_and_then built_visibility (option_and_then visibility_of (text_at (codes "visibility") d))

@@ -1,16 +1,22 @@
 -- The statement that a line asks.
-use Rattle.std.specs.Prelude.{[], ◌∷◌, codes, true, false, Option, None, option_map, option_and_then, if◌then◌else◌}
+use Rattle.std.specs.Prelude.{ℕ, pos, List, [], ◌∷◌, codes, true, false, Option, None, option_map, option_and_then, if◌then◌else◌}
 use Rattle.serde_json.specs.Data.{Data}
 use Rattle.place_keys.specs.declared.sort_list.Column.TheVariants.{EnqTime}
 use Rattle.queue_rows.specs.declared.rows.QueueKind.TheVariants.{Normal}
 use Rattle.queue_rows.specs.declared.statement.Statement.{Statement}
 use Rattle.queue_rows.specs.declared.statement.Statement.TheVariants as statements
 use Rattle.queue_rows.specs.declared.statement.Admin.TheVariants as asks
+use Rattle.queue_rows.specs.declared.statement.Dequeue.{Dequeue}
+use Rattle.queue_rows.specs.declared.statement.Enqueue.{Enqueue}
+use Rattle.queue_rows.specs.declared.statement.Mode.TheVariants.{Remove}
+use Rattle.queue_rows.specs.declared.statement.Navigation.TheVariants.{Next}
+use Rattle.queue_rows.specs.declared.statement.Visibility.{Visibility}
+use Rattle.payload_records.specs.declared.payload.Payload.{Payload}
 use Rattle.script_text.specs.declared.form.Verb.{Verb}
 use Rattle.script_text.specs.declared.form.Verb.TheVariants as verbs
 use Rattle.script_text.specs.declared.form.Form.TheVariants.{Asking}
 use Rattle.script_text.specs.Form.{verb_of, has_form}
-use Rattle.script_text.specs.Member.{text_at, name_at, table_at, fields_at}
+use Rattle.script_text.specs.Member.{text_at, name_at, table_at, fields_at, payload_at, visibility_at}
 
 -- sorted by the moment of the enqueue, for one consumer, and with no groups
 unfoldable pub create_table : Data → Option Statement
@@ -24,12 +30,48 @@ create_queue d = option_and_then (λ queue. option_map (λ table. statements.Adm
 unfoldable pub start_queue : Data → Option Statement
 start_queue d = option_map (λ queue. statements.Admin (asks.StartQueue queue None true)) (name_at (codes "queue") d)
 
+abbrev pub plain_enqueue : List ℕ → Payload → Visibility → Enqueue
+plain_enqueue queue payload visibility = record {
+  queue = queue;
+  payload = payload;
+  visibility = visibility;
+  priority = pos 1;
+  delay = 0;
+  expiration = None;
+  corr = None;
+  recipients = None;
+  exception_queue = None;
+  before = None;
+  top = false;
+}
+
+-- of priority 1, with neither a delay nor an end, for whom the queue says, and at its place
+unfoldable pub enqueue : Data → Option Statement
+enqueue d = option_and_then (λ queue. option_and_then (λ visibility. option_map (λ payload. statements.Enqueue (plain_enqueue queue payload visibility)) (payload_at d)) (visibility_at d)) (name_at (codes "queue") d)
+
+abbrev pub plain_dequeue : List ℕ → Visibility → Dequeue
+plain_dequeue queue visibility = record {
+  queue = queue;
+  consumer = None;
+  mode = Remove;
+  navigation = Next;
+  visibility = visibility;
+  wait = 0;
+  msgid = None;
+  corr = None;
+  condition = None;
+}
+
+-- the next message is taken, without waiting
+unfoldable pub dequeue : Data → Option Statement
+dequeue d = option_and_then (λ queue. option_map (λ visibility. statements.Dequeue (plain_dequeue queue visibility)) (visibility_at d)) (name_at (codes "queue") d)
+
 abbrev pub statement_of : Verb → Data → Option Statement
 statement_of verbs.CreateTable d = create_table d
 statement_of verbs.CreateQueue d = create_queue d
 statement_of verbs.StartQueue d = start_queue d
-statement_of verbs.Enqueue d = None
-statement_of verbs.Dequeue d = None
+statement_of verbs.Enqueue d = enqueue d
+statement_of verbs.Dequeue d = dequeue d
 
 -- a statement has no members but its own
 abbrev pub statement_if : Data → Verb → Option Statement

@@ -14,9 +14,5 @@ pub use fault::ScriptFault;
 pub use laws::script_needs_only_the_front;
 pub use reading::read;
 
-/// The most sessions that a script declares.
-pub const SESSION_LIMIT: usize = 1;
-/// The most statements of a script, those of all its sessions together.
-pub const STATEMENT_LIMIT: usize = 1_000_000;
-/// The most bytes of the name of a table.
-pub const TABLE_NAME_LIMIT: usize = 28;
+/// The most sessions that a script can declare so far.
+pub const SESSIONS_BUILT: usize = 1;

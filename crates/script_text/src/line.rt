@@ -6,7 +6,7 @@ ghost use Rattle.script_text.specs.Line.{json_of, is_blank, declaration, asking,
 
 use crate::fault::LineFault;
 use crate::form::{Form, has_form};
-use crate::member::{is_place_built, name_at, place_at, session_at};
+use crate::member::{name_at, place_at, session_at};
 use crate::statement::statement_at;
 use aq_base::{DbId, LINE_LIMIT};
 use payload_records::Name;
@@ -62,8 +62,8 @@ fn declaration(alloc: Global, value: &Value) -> Result<Line, LineFault>
 {
     let name = session_at(alloc, value)?;
     match place_at(value) {
-        Some(at) if is_place_built(at) => Ok(Line::Declared { name, at }),
-        _ => Err(LineFault::Bad),
+        Some(at) => Ok(Line::Declared { name, at }),
+        None => Err(LineFault::Bad),
     }
 }
 

@@ -1,12 +1,12 @@
 // The members of a line, each with what it may hold.
-ghost use Rattle.std.specs.Prelude.{◌≡◌, IfOk, IsErrOf, Some, None, option_map};
+ghost use Rattle.std.specs.Prelude.{◌≡◌, IfOk, IfSome, IsErrOf, Some, None, option_map};
 ghost use Rattle.serde_json.specs.View.{view};
-ghost use Rattle.script_text.specs.Member.{text_at, name_at, table_at, fields_at, session_at, is_reserved, place_at, is_place_built, visibility_at, is_visibility_built};
+ghost use Rattle.queue_rows.specs.declared.statement.Visibility.TheVariants.{Immediate};
+ghost use Rattle.script_text.specs.Member.{text_at, name_at, table_at, fields_at, session_at, is_reserved, place_of, place_at, is_place_built, payload_at, visibility_of, visibility_at, is_visibility_built};
 
-use crate::TABLE_NAME_LIMIT;
 use crate::fault::LineFault;
-use aq_base::DbId;
-use payload_records::{Name, NameFault, RecordType, TypeFault};
+use aq_base::{DbId, TABLE_NAME_LIMIT};
+use payload_records::{Name, NameFault, Payload, RecordType, TypeFault};
 use queue_rows::Visibility;
 use serde_json::Value;
 use std::alloc::Global;
@@ -78,11 +78,9 @@ pub fn session_at(alloc: Global, value: &Value) -> Result<Name, LineFault>
     Ok(name)
 }
 
-/// The database of a session that is declared.
-pub fn place_at(value: &Value) -> Option<DbId>
-    ensures { result ≡ place_at (view value.now) }
+fn place_of(text: &str) -> Option<DbId>
+    ensures { result ≡ place_of text.now }
 {
-    let text = text_at(value, "at")?;
     if text == "home" {
         Some(DbId::Home)
     } else if text == "away" {
@@ -93,7 +91,7 @@ pub fn place_at(value: &Value) -> Option<DbId>
 }
 
 /// Whether sessions at that database can be declared so far.
-pub fn is_place_built(place: DbId) -> bool
+fn is_place_built(place: DbId) -> bool
     ensures { result ≡ is_place_built place }
 {
     match place {
@@ -102,11 +100,32 @@ pub fn is_place_built(place: DbId) -> bool
     }
 }
 
-/// When what a statement does is to be seen by others.
-pub fn visibility_at(value: &Value) -> Option<Visibility>
-    ensures { result ≡ visibility_at (view value.now) }
+/// The database of a session that is declared.
+pub fn place_at(value: &Value) -> Option<DbId>
+    ensures { result ≡ place_at (view value.now) }
 {
-    let text = text_at(value, "visibility")?;
+    let place = place_of(text_at(value, "at")?)?;
+    if is_place_built(place) {
+        Some(place)
+    } else {
+        None
+    }
+}
+
+/// The payload that an enqueue gives.
+pub fn payload_at(alloc: Global, value: &Value) -> Result<Payload, LineFault>
+    ensures ok { IfOk result (λ payload. payload_at (view value.now) ≡ Some payload) }
+    ensures bad { IsErrOf result LineFault.Bad → payload_at (view value.now) ≡ None }
+{
+    let Some(payload) = value.get("payload") else {
+        return Err(LineFault::Bad);
+    };
+    Ok(Payload::of(alloc, payload)?)
+}
+
+fn visibility_of(text: &str) -> Option<Visibility>
+    ensures { result ≡ visibility_of text.now }
+{
     if text == "on_commit" {
         Some(Visibility::OnCommit)
     } else if text == "immediate" {
@@ -117,11 +136,24 @@ pub fn visibility_at(value: &Value) -> Option<Visibility>
 }
 
 /// Whether statements of that visibility have a meaning so far.
-pub fn is_visibility_built(visibility: Visibility) -> bool
+fn is_visibility_built(visibility: Visibility) -> bool
     ensures { result ≡ is_visibility_built visibility }
 {
     match visibility {
         Visibility::OnCommit => false,
         Visibility::Immediate => true,
+    }
+}
+
+/// When what a statement does is to be seen by others.
+pub fn visibility_at(value: &Value) -> Option<Visibility>
+    ensures visibility { result ≡ visibility_at (view value.now) }
+    ensures built { IfSome result (λ visibility. visibility ≡ Immediate) }
+{
+    let visibility = visibility_of(text_at(value, "visibility")?)?;
+    if is_visibility_built(visibility) {
+        Some(visibility)
+    } else {
+        None
     }
 }

@@ -4,13 +4,13 @@ ghost use Rattle.serde_json.specs.View.{view};
 ghost use Rattle.queue_rows.specs.Built.{IsBuilt};
 ghost use Rattle.script_text.specs.Form.{verb_of};
 ghost use Rattle.script_text.specs.Member.{text_at};
-ghost use Rattle.script_text.specs.Statement.{create_table, create_queue, start_queue, statement_of, statement};
+ghost use Rattle.script_text.specs.Statement.{create_table, create_queue, start_queue, enqueue, dequeue, statement_of, statement};
 
 use crate::fault::LineFault;
 use crate::form::{Form, Verb, has_form, verb_of};
-use crate::member::{fields_at, name_at, table_at, text_at};
+use crate::member::{fields_at, name_at, payload_at, table_at, text_at, visibility_at};
 use place_keys::SortList;
-use queue_rows::{Admin, QueueKind, Statement};
+use queue_rows::{Admin, Dequeue, Enqueue, Mode, Navigation, QueueKind, Statement};
 use serde_json::Value;
 use std::alloc::Global;
 
@@ -67,6 +67,55 @@ fn start_queue(alloc: Global, value: &Value) -> Result<Statement, LineFault>
     }))
 }
 
+#[tactic(auto, unfolding(crate::specs::Statement::enqueue))]
+fn enqueue(alloc: Global, value: &Value) -> Result<Statement, LineFault>
+    ensures ok { IfOk result (λ s. enqueue (view value.now) ≡ Some s) }
+    ensures built { IfOk result IsBuilt }
+    ensures bad { IsErrOf result LineFault.Bad → enqueue (view value.now) ≡ None }
+{
+    let queue = name_at(alloc, value, "queue")?;
+    let Some(visibility) = visibility_at(value) else {
+        return Err(LineFault::Bad);
+    };
+    let payload = payload_at(alloc, value)?;
+    Ok(Statement::Enqueue(Enqueue {
+        queue,
+        payload,
+        visibility,
+        priority: 1,
+        delay: 0,
+        expiration: None,
+        corr: None,
+        recipients: None,
+        exception_queue: None,
+        before: None,
+        top: false,
+    }))
+}
+
+#[tactic(auto, unfolding(crate::specs::Statement::dequeue))]
+fn dequeue(alloc: Global, value: &Value) -> Result<Statement, LineFault>
+    ensures ok { IfOk result (λ s. dequeue (view value.now) ≡ Some s) }
+    ensures built { IfOk result IsBuilt }
+    ensures bad { IsErrOf result LineFault.Bad → dequeue (view value.now) ≡ None }
+{
+    let queue = name_at(alloc, value, "queue")?;
+    let Some(visibility) = visibility_at(value) else {
+        return Err(LineFault::Bad);
+    };
+    Ok(Statement::Dequeue(Dequeue {
+        queue,
+        consumer: None,
+        mode: Mode::Remove,
+        navigation: Navigation::Next,
+        visibility,
+        wait: 0,
+        msgid: None,
+        corr: None,
+        condition: None,
+    }))
+}
+
 fn statement_of(alloc: Global, verb: Verb, value: &Value) -> Result<Statement, LineFault>
     ensures ok { IfOk result (λ s. statement_of verb (view value.now) ≡ Some s) }
     ensures built { IfOk result IsBuilt }
@@ -76,8 +125,8 @@ fn statement_of(alloc: Global, verb: Verb, value: &Value) -> Result<Statement, L
         Verb::CreateTable => create_table(alloc, value),
         Verb::CreateQueue => create_queue(alloc, value),
         Verb::StartQueue => start_queue(alloc, value),
-        Verb::Enqueue => Err(LineFault::Bad),
-        Verb::Dequeue => Err(LineFault::Bad),
+        Verb::Enqueue => enqueue(alloc, value),
+        Verb::Dequeue => dequeue(alloc, value),
     }
 }
 
