@@ -1,5 +1,5 @@
 -- What a source and a sink in memory hold, and what a read and a write do to them.
-use Rattle.std.specs.Prelude.{◌≡◌, ℕ, ◌+◌, ◌-◌, ◌^◌, ◌<◌, ◌==◌, ◌||◌, ◌&&◌, ◌↔◌, nat_lt, min, List, [], ◌++◌, length, take, drop, Bool, IsTrue, Option, Result, IsErr, IfOk, OnErr, if◌then◌else◌}
+use Rattle.std.specs.Prelude.{◌≡◌, ℕ, ◌+◌, ◌-◌, ◌^◌, ◌==◌, ◌||◌, ◌&&◌, ◌↔◌, nat_lt, min, List, [], ◌++◌, length, take, drop, Bool, IsTrue, Option, Result, IsErr, IfOk, OnErr}
 use Rattle.std.specs.List.{list_any}
 use Rattle.std.specs.Option.{option_map_or}
 use Rattle.aq_base.specs.declared.stream.Failed.{Failed}
