@@ -1,4 +1,9 @@
 // What a mark says.
+ghost use Rattle.std.specs.Prelude.{◌≡◌, option_copied};
+ghost use Rattle.std.specs.Option.{option_eq};
+ghost use Rattle.std.specs.Str.{bytes_eq};
+ghost use Rattle.row_locks.specs.Marks.{is_on, is_in_group};
+
 use payload_records::{Copied, Name};
 use std::alloc::AllocError;
 
@@ -44,5 +49,34 @@ impl Copied for Mark {
             removed: self.removed,
             group: Copied::copied(&self.group)?,
         })
+    }
+}
+
+/// Whether the mark is on the slot of the message.
+pub(crate) fn is_on(mark: &Mark, id: u64, slot: u32) -> bool
+    ensures { result ≡ is_on id slot mark.now }
+{
+    mark.id == id && mark.slot == slot
+}
+
+fn is_same_consumer(left: &Option<Name>, right: Option<&Name>) -> bool
+    ensures { result ≡ option_eq bytes_eq left.now (option_copied right.entry) }
+{
+    match (left, right) {
+        (None, None) => true,
+        (Some(left), Some(right)) => left == right,
+        _ => false,
+    }
+}
+
+/// Whether the mark is on a slot of the group.
+pub(crate) fn is_in_group(mark: &Mark, queue: &Name, number: u64, consumer: Option<&Name>) -> bool
+    ensures { result ≡ is_in_group (record { queue = queue.now; number = number; consumer = option_copied consumer.entry }) mark.now }
+{
+    match &mark.group {
+        None => false,
+        Some(own) => {
+            own.number == number && own.queue == *queue && is_same_consumer(&own.consumer, consumer)
+        }
     }
 }
