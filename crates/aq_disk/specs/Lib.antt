@@ -4,3 +4,4 @@ pub mod Held
 pub mod Kept
 pub mod Left
 pub mod Memory
+pub mod Plan

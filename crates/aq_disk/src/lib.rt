@@ -8,6 +8,7 @@ mod file;
 mod held;
 mod kept;
 mod memory;
+mod plan;
 mod replay;
 mod synced;
 #[cfg(test)]

@@ -5,6 +5,7 @@ ghost use Rattle.std.specs.List.{list_all};
 use crate::counts::Counts;
 use crate::held::Held;
 use crate::kept::Fill;
+use crate::plan::is_set_to_fail;
 use crate::{Disk, Failed, LENGTH_LIMIT};
 use std::alloc::{AllocError, Global};
 
@@ -20,12 +21,13 @@ pub struct MemoryDisk {
 }
 
 impl MemoryDisk {
-    ghost use Rattle.std.specs.Prelude.{◌≡◌, ◌≤◌, ◌<◌, ◌+◌, ◌-◌, ◌^◌, length, Some, IfOk, OnOk, OnErr};
+    ghost use Rattle.std.specs.Prelude.{◌≡◌, ◌≤◌, ◌<◌, ◌+◌, ◌-◌, ◌^◌, length, Some, IfOk, OnOk, OnErr, IsErr, ◌↔◌};
     ghost use Rattle.aq_disk.specs.Causes.{HasCause};
-    ghost use Rattle.aq_disk.specs.Disk.{Only, next_call, after_write};
+    ghost use Rattle.aq_disk.specs.Disk.{IsSettled, next_call, after_write};
     ghost use Rattle.aq_disk.specs.Kept.{AddsWrite};
     ghost use Rattle.aq_disk.specs.Held.{SameHeld};
     ghost use Rattle.aq_disk.specs.Memory.{image_of};
+    ghost use Rattle.aq_disk.specs.Plan.{IsSetToFail};
     ghost use Rattle.aq_disk.specs.declared.kept.Fill.TheVariants.{New};
 
     /// A disk of these bytes, all of them synced. Its calls of the listed numbers fail, and all calls past the
@@ -37,7 +39,7 @@ impl MemoryDisk {
         fuse: Option<u64>,
     ) -> Result<MemoryDisk, AllocError>
         ensures bytes { IfOk result (λ disk. ⟦<MemoryDisk as Disk>⟧.seen disk ≡ Some bytes.items) }
-        ensures settled { IfOk result (λ disk. Only bytes.items (⟦<MemoryDisk as Disk>⟧.is_image disk 0)) }
+        ensures settled { IfOk result (λ disk. IsSettled (⟦<MemoryDisk as Disk>⟧.seen disk) (⟦<MemoryDisk as Disk>⟧.is_image disk 0)) }
         ensures calls { IfOk result (λ disk. ⟦<MemoryDisk as Disk>⟧.calls disk ≡ 0) }
         ensures faults { IfOk result (λ disk. ⟦<MemoryDisk as Disk>⟧.faults disk ≡ 0) }
     {
@@ -78,13 +80,12 @@ impl MemoryDisk {
 
     // Fails where the call is set to fail.
     fn work(&mut self) -> Result<(), Failed>
+        ensures set { IsErr result ↔ IsSetToFail self.old.failing.items self.old.fuse self.old.counts.calls }
         ensures number { self.new.counts.calls ≡ self.old.counts.calls }
         ensures held { self.new.held ≡ self.old.held }
         ensures cause { HasCause self.old.counts.faults self.new.counts.faults result }
     {
-        if self.failing.contains(&self.counts.calls)
-            || self.fuse.is_some_and(|fuse| fuse < self.counts.calls)
-        {
+        if is_set_to_fail(&self.failing, self.fuse, self.counts.calls) {
             return Err(self.counts.fail());
         }
         Ok(())

@@ -2,7 +2,7 @@ use Rattle.std.proofs.Common.{rules, subst, List, ℕ, ◌≡◌, ◌≤◌, ◌
 use Rattle.aq_disk.specs.Disk.{SameImages, Only}
 use Rattle.aq_disk.specs.Held.{SameHeld}
 use Rattle.aq_disk.specs.declared.kept.Step.TheVariants.{Sync}
-use Rattle.aq_disk.proofs.Calls.{on_err, images, same_images, stays_same, stays_with, sync_only}
+use Rattle.aq_disk.proofs.Calls.{on_err, images, same_images, stays_same, stays_with, sync_only, sync_earlier}
 use Rattle.aq_disk.proofs.memory.MemoryDiskDisk.sync.Goals as goal
 
 pub returns-in_err-work-clause-crash : goal.returns-in_err-work-clause-crash
@@ -30,3 +30,11 @@ returns-in-Err-clause-crash c =
     let le : old.counts.calls ≤ c.fail.new.self.calls = search rules in
     let stays : SameHeld old.held c.sync.new.self = stays_with old.held c.work.new.self.held c.sync.new.self is c.in-Err.ensures.err in
     same_images old.held c.sync.new.self stays old.counts.calls c.fail.new.self.calls old.numbered le
+
+pub returns-in-Ok-clause-earlier : goal.returns-in-Ok-clause-earlier
+returns-in-Ok-clause-earlier c =
+    let old = c.args.self.now in
+    let adds : c.sync.new.self.kept.items ≡ old.held.kept.items ++ record { call = c.work.new.self.counts.calls; step = Sync } ∷ [] = search rules in
+    let later : old.counts.calls < c.work.new.self.counts.calls = search rules in
+    let begins : c.sync.new.self.start.items ≡ old.held.start.items = search rules in
+    sync_earlier old.held c.sync.new.self old.counts.calls c.work.new.self.counts.calls old.numbered later begins adds
