@@ -46,6 +46,7 @@ pub struct Ticket {
 }
 
 impl Line {
+    /// A line in which nobody waits.
     pub fn new() -> Line {
         Line {
             drawn: AtomicU64::new(0),

@@ -104,9 +104,10 @@ impl<W: Grows> Turnstile<W> {
     }
 
     /// Waits for the turn of this pass, and takes no memory. Passes that wait are let in mostly in the order in which they came.
-    /// The value begins with all that the pass has seen, and has of its entries just those that it made.
+    /// The value has the opening given at the start. Its entries begin with all that the pass has seen, and those of its actor are the ones that the pass made.
     pub fn enter<'a, R: Wait>(&'a self, rt: &R, pass: &'a mut Pass<W>) -> Turn<'a, W>
         requires { IsPassOf self.now pass.old }
+        // The turn is a turn of this very pass and turnstile.
         ensures same { (result.pass.ghost_name ≡ pass.entry.ghost_name) × (result.turnstile.now ≡ self.now) }
         ensures turn { IsTurnOf self.now result.pass.now × (known result.pass.now ≡ in_turn (known pass.old) (W.entries result.value)) }
         ensures value { Continues W.opening W.entries W.actor (known pass.old) result.value }

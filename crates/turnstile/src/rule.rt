@@ -7,27 +7,35 @@ use std::snapshot::Snapshot;
 
 /// What a pass knows, and where its turn stands.
 pub struct View<O, E> {
+    /// The number under which the pass enters.
     pub actor: u32,
+    /// It is the pass that `new` gave.
     pub first: bool,
     /// The turn is this pass's.
     pub holds: bool,
     /// The value is out with it.
     pub out: bool,
-    /// Nothing once the pass was joined.
+    /// The opening of the value at the start. Nothing once the pass was joined.
     pub opening: Option<O>,
+    /// The entries that it knows the value's list begins with.
     pub seen: LinkedList<E>,
     /// What a pass had seen that was joined just now.
     pub told: LinkedList<E>,
+    /// The entries that it has made, in their order.
     pub own: LinkedList<E>,
     /// The entries of a value that is at home, while the turn is this pass's.
     pub home: LinkedList<E>,
+    /// Of the first pass: the numbers of the passes that it has made.
     pub made: LinkedList<u32>,
+    /// Of the first pass: each number that it has joined, with that pass's own entries.
     pub joined: LinkedList<(u32, LinkedList<E>)>,
 }
 
 /// What the rule is told once: the value at the start, and the first pass's number.
 pub struct Start<W> {
+    /// The value at the start.
     pub value: Snapshot<W>,
+    /// The first pass's number.
     pub actor: u32,
 }
 
@@ -37,6 +45,7 @@ impl<W> Drop for Start<W> {
     }
 }
 
+/// The fact about the word, the slot and all views that each step keeps.
 pub struct Law<W> {
     of: PhantomData<W>,
 }

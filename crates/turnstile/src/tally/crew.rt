@@ -14,8 +14,11 @@ use std::thread::Threads;
 
 /// One thread's pass and number, and whether it has added all that it was to add.
 pub struct Worker {
+    /// It is of the turnstile that the workers share.
     pub pass: Pass<Tally>,
+    /// The number of the pass, which is the worker's place.
     pub actor: u32,
+    /// All numbers were added.
     pub done: bool,
 }
 
