@@ -21,12 +21,12 @@ pub struct MemoryDisk {
 }
 
 impl MemoryDisk {
-    ghost use Rattle.std.specs.Prelude.{◌≡◌, ◌≤◌, ◌<◌, ◌+◌, ◌-◌, ◌^◌, length, Some, IfOk, OnOk, OnErr, IsErr, ◌↔◌};
+    ghost use Rattle.std.specs.Prelude.{ℕ, ◌≡◌, ◌≤◌, ◌<◌, ◌+◌, ◌-◌, ◌^◌, length, Some, IfOk, OnOk, OnErr, IsErr, ◌↔◌};
     ghost use Rattle.aq_disk.specs.Causes.{HasCause};
     ghost use Rattle.aq_disk.specs.Disk.{IsSettled, next_call, after_write};
     ghost use Rattle.aq_disk.specs.Kept.{AddsWrite};
     ghost use Rattle.aq_disk.specs.Held.{SameHeld};
-    ghost use Rattle.aq_disk.specs.Memory.{image_of};
+    ghost use Rattle.aq_disk.specs.Memory.{image_of, FailsAt};
     ghost use Rattle.aq_disk.specs.Plan.{IsSetToFail};
     ghost use Rattle.aq_disk.specs.declared.kept.Fill.TheVariants.{New};
 
@@ -40,6 +40,7 @@ impl MemoryDisk {
     ) -> Result<MemoryDisk, AllocError>
         ensures bytes { IfOk result (λ disk. ⟦<MemoryDisk as Disk>⟧.seen disk ≡ Some bytes.items) }
         ensures settled { IfOk result (λ disk. IsSettled (⟦<MemoryDisk as Disk>⟧.seen disk) (⟦<MemoryDisk as Disk>⟧.is_image disk 0)) }
+        ensures plan { IfOk result (λ disk. (call : ℕ) → FailsAt disk call ↔ IsSetToFail failing.items fuse call) }
         ensures calls { IfOk result (λ disk. ⟦<MemoryDisk as Disk>⟧.calls disk ≡ 0) }
         ensures faults { IfOk result (λ disk. ⟦<MemoryDisk as Disk>⟧.faults disk ≡ 0) }
     {
@@ -80,7 +81,7 @@ impl MemoryDisk {
 
     // Fails where the call is set to fail.
     fn work(&mut self) -> Result<(), Failed>
-        ensures set { IsErr result ↔ IsSetToFail self.old.failing.items self.old.fuse self.old.counts.calls }
+        ensures set { IsErr result ↔ FailsAt self.old self.old.counts.calls }
         ensures number { self.new.counts.calls ≡ self.old.counts.calls }
         ensures held { self.new.held ≡ self.old.held }
         ensures cause { HasCause self.old.counts.faults self.new.counts.faults result }
