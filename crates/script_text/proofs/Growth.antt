@@ -1,8 +1,9 @@
 -- One more statement keeps what each script keeps.
-use Rattle.std.proofs.Common.{◌≡◌, ℕ, ◌+◌, ◌<◌, List, [], ◌∷◌, ◌++◌, length, get_or, set, take, drop, sym, ap, ◌∙◌, arith, length-append}
+use Rattle.std.proofs.Common.{◌≡◌, ◌≤◌, ℕ, ◌+◌, ◌<◌, List, [], ◌∷◌, ◌++◌, length, get_or, set, take, drop, sym, ap, ◌∙◌, arith, length-append}
+use Rattle.std.specs.List.{All}
 use Rattle.std.proofs.lemmas.List.{length-set}
 use Rattle.std.proofs.lemmas.List.Elements.{All-set, All-push, All-get_or}
-use Rattle.std.proofs.lemmas.List.Sums.{sum_by-set}
+use Rattle.std.proofs.lemmas.List.Sums.{sum_by-set, get_or-le-sum_by}
 use Rattle.std.proofs.lemmas.Option.{slice_get-get_or}
 use Rattle.std.proofs.lemmas.Grind.{common_steps}
 use Rattle.aq_base.specs.declared.DbId.TheVariants.{Home}
@@ -10,7 +11,7 @@ use Rattle.queue_rows.specs.Rows.{set_some, changed_some}
 use Rattle.queue_rows.specs.Built.{IsBuilt}
 use Rattle.queue_rows.specs.declared.statement.Statement.{Statement}
 use Rattle.queue_rows.specs.declared.history.SessionScript.{SessionScript}
-use Rattle.script_text.specs.Script.{new_session, statement_count, with_statement, with_statement_at, AreWithinLimits, IsBuiltScript}
+use Rattle.script_text.specs.Script.{new_session, statement_count, with_statement, with_statement_at, AreWithinLimits, IsBuiltScript, IsShortScript}
 
 no_session : SessionScript
 no_session = new_session [] Home
@@ -45,3 +46,7 @@ grown asked n at statement ss new built kept few h e whole =
     let same : length new ≡ length ss = ap length (e ∙ changed statement ss at h) ∙ length-set ss at (with_statement statement (get_or ss at no_session)) in
     let all : take n (new ++ drop (length new) ss) ≡ with_statement_at statement ss at = all_of n new ss same whole ∙ e in
     rw all (ap (λ k. k + 1) kept.0 ∙ sym (count_on statement ss at h), within_on statement ss at h few_so_far built kept.1)
+
+-- what all sessions ask together is no less than what one asks
+pub each_short : (ss : List SessionScript) → statement_count ss ≤ 1000000 → All IsShortScript ss
+each_short ss h = λ k d within. let one : length (get_or ss k d).statements ≤ statement_count ss = get_or-le-sum_by (λ s. length s.statements) ss k d within in omega arith

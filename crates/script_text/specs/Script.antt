@@ -98,6 +98,10 @@ pub record AreWithinLimits (scripts : List SessionScript) : Type 0 where
   pub statements : statement_count scripts ≤ STATEMENT_LIMIT
   pub built : All IsBuiltScript scripts
 
+-- no session asks more than a script may
+abbrev pub IsShortScript : SessionScript → Type 0
+IsShortScript s = length s.statements ≤ STATEMENT_LIMIT
+
 -- ---- what is left of a text to be read
 
 abbrev pub lines_left : Option (List ℕ) → List (List ℕ)

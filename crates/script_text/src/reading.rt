@@ -1,6 +1,6 @@
 // A whole script.
-ghost use Rattle.std.specs.Prelude.{◌≡◌, ◌≤◌, ◌<◌, ◌+◌, [], ◌∷◌, IfOk, IfErr, IfSome, Ok, length, position, option_map};
-ghost use Rattle.script_text.specs.Script.{is_line_feed, lines_of, lines_left, room_of, with_lines, script, line_feeds, IsFaultOf, AreWithinLimits};
+ghost use Rattle.std.specs.Prelude.{◌≡◌, ◌≤◌, ◌<◌, ◌+◌, [], ◌∷◌, IfOk, IfErr, IfSome, Ok, length, position, option_map, All};
+ghost use Rattle.script_text.specs.Script.{is_line_feed, lines_of, lines_left, room_of, with_lines, script, line_feeds, IsFaultOf, AreWithinLimits, IsShortScript};
 ghost use Rattle.aq_base.specs.declared.limits.TheConstants.{INPUT_LIMIT};
 
 use crate::fault::{LineFault, ScriptFault};
@@ -65,6 +65,7 @@ pub fn read(alloc: Global, bytes: &[u8]) -> Result<List<SessionScript>, ScriptFa
     ensures ok { IfOk result (λ sessions. script bytes.now ≡ Ok sessions) }
     ensures bad { IfErr result (λ fault. IsFaultOf fault (script bytes.now)) }
     ensures within { IfOk result AreWithinLimits }
+    ensures short { IfOk result (λ sessions. All IsShortScript sessions) }
 {
     if bytes.len() > INPUT_LIMIT {
         let line = 1 + count_line_feeds(&bytes[..INPUT_LIMIT]);

@@ -1,8 +1,8 @@
 // The sessions of a script, as its lines make them one after the other.
-ghost use Rattle.std.specs.Prelude.{◌≡◌, ◌≤◌, ◌<◌, [], position, length, slice_get, slice_set, option_and_then, IfSome, OnOk, OnErr, IsErrOf, Some, None};
+ghost use Rattle.std.specs.Prelude.{◌≡◌, ◌≤◌, ◌<◌, [], position, length, slice_get, slice_set, option_and_then, IfSome, OnOk, OnErr, IsErrOf, Some, None, All};
 ghost use Rattle.queue_rows.specs.Built.{IsBuilt};
 ghost use Rattle.script_text.specs.Line.{line_of, IsBuiltLine};
-ghost use Rattle.script_text.specs.Script.{is_of, with_session, with_statement, with_statement_at, with_statement_of, with_line, AreWithinLimits, IsBuiltScript};
+ghost use Rattle.script_text.specs.Script.{is_of, with_session, with_statement, with_statement_at, with_statement_of, with_line, AreWithinLimits, IsShortScript};
 
 use crate::SESSIONS_BUILT;
 use crate::fault::LineFault;
@@ -128,6 +128,7 @@ impl Sessions {
     pub fn into_list(self) -> List<SessionScript>
         ensures list { result ≡ self }
         ensures within { AreWithinLimits self }
+        ensures short { All IsShortScript self }
     {
         List::from_vec(self.list)
     }
