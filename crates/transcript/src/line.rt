@@ -1,12 +1,11 @@
 // The lines of what the timer and the propagator did.
 ghost use Rattle.std.specs.Prelude.{◌≡◌, [], ◌++◌, OnOk, string_bytes, codes, if◌then◌else◌};
-ghost use Rattle.transcript.specs.Text.{slot_text};
-ghost use Rattle.transcript.specs.Line.{timer_line, timer_lines, slot_ref_text, offer_line, cause_word, arrival_text, arrive_line, confirm_line};
+ghost use Rattle.transcript.specs.Line.{timer_line, timer_lines, offer_line, cause_word, arrival_text, arrive_line, confirm_line};
 
 use crate::text::{Id, Slot, other_of};
 use aq_base::DbId;
 use payload_records::{List, Name};
-use queue_rows::{Arrival, Cause, Change, SlotRef};
+use queue_rows::{Arrival, Cause, Change, MsgId, SlotRef};
 use std::alloc::AllocError;
 
 fn put_timer_line(out: &mut String, db: DbId, change: &Change) -> Result<(), AllocError>
@@ -14,20 +13,28 @@ fn put_timer_line(out: &mut String, db: DbId, change: &Change) -> Result<(), All
 {
     match change {
         Change::Ready { id, slot, .. } => {
-            let slot = slot_of(db, *id, *slot);
+            let slot = Slot {
+                db,
+                id: *id,
+                number: *slot,
+            };
             write!(out, "timer {slot} ready\n")
         }
         Change::Expired { id, slot, .. } => {
-            let slot = slot_of(db, *id, *slot);
+            let slot = Slot {
+                db,
+                id: *id,
+                number: *slot,
+            };
             write!(out, "timer {slot} expired\n")
         }
         Change::Moved { id, queue, .. } => {
-            let id = Id { db, number: *id };
+            let id = Id(MsgId { db, number: *id });
             let queue = queue.as_str();
             write!(out, "timer {id} moved {queue}\n")
         }
         Change::Purged { id } => {
-            let id = Id { db, number: *id };
+            let id = Id(MsgId { db, number: *id });
             write!(out, "timer {id} purged\n")
         }
         _ => Ok(()),
@@ -48,27 +55,11 @@ pub(crate) fn put_timer_lines(
     Ok(())
 }
 
-fn slot_of(db: DbId, id: u64, number: u64) -> Slot
-    ensures { slot_text result.db result.id result.number ≡ slot_text db id number }
-{
-    Slot { db, id, number }
-}
-
-fn slot_at(at: SlotRef) -> Slot
-    ensures { slot_text result.db result.id result.number ≡ slot_ref_text at }
-{
-    Slot {
-        db: at.db,
-        id: at.id,
-        number: u64::from(at.slot),
-    }
-}
-
 /// Puts in the line of a slot that was taken up to be sent to a queue.
 pub(crate) fn put_offer(out: &mut String, at: SlotRef, to: &Name) -> Result<(), AllocError>
     ensures { OnOk result (string_bytes out.new ≡ string_bytes out.old ++ offer_line at to.now) }
 {
-    let slot = slot_at(at);
+    let slot = Slot::from(at);
     let to = to.as_str();
     write!(out, "offer {slot} to {to}\n")
 }
@@ -96,10 +87,10 @@ fn put_arrival(out: &mut String, from: DbId, outcome: Arrival) -> Result<(), All
 {
     match outcome {
         Arrival::Copied(copy) => {
-            let id = Id {
+            let id = Id(MsgId {
                 db: other_of(from),
                 number: copy,
-            };
+            });
             write!(out, "as {id}")
         }
         Arrival::Seen => out.push_str("seen"),
@@ -115,7 +106,7 @@ fn put_arrival(out: &mut String, from: DbId, outcome: Arrival) -> Result<(), All
 pub(crate) fn put_arrive(out: &mut String, at: SlotRef, outcome: Arrival) -> Result<(), AllocError>
     ensures { OnOk result (string_bytes out.new ≡ string_bytes out.old ++ arrive_line at outcome) }
 {
-    let slot = slot_at(at);
+    let slot = Slot::from(at);
     write!(out, "arrive {slot} ")?;
     put_arrival(out, at.db, outcome)?;
     out.push_str("\n")
@@ -125,6 +116,6 @@ pub(crate) fn put_arrive(out: &mut String, at: SlotRef, outcome: Arrival) -> Res
 pub(crate) fn put_confirm(out: &mut String, at: SlotRef) -> Result<(), AllocError>
     ensures { OnOk result (string_bytes out.new ≡ string_bytes out.old ++ confirm_line at) }
 {
-    let slot = slot_at(at);
+    let slot = Slot::from(at);
     write!(out, "confirm {slot}\n")
 }

@@ -75,10 +75,7 @@ fn put_message(
     ensures { OnOk result (string_bytes out.new
         ≡ string_bytes out.old ++ message_text id priority retries corr.now payload.now) }
 {
-    let id = Id {
-        db: id.db,
-        number: id.number,
-    };
+    let id = Id(id);
     write!(out, " {id} priority {priority} retries {retries} corr ")?;
     put_json_or_null(out, corr)?;
     put_payload(out, payload)
@@ -128,7 +125,8 @@ fn put_payload_fault_place(out: &mut String, fault: &PayloadFault) -> Result<(),
             put_json(out, key.as_str())
         }
         PayloadFault::WrongKind(name) | PayloadFault::TooLong(name) => {
-            put_two(out, " ", name.as_str())
+            let name = name.as_str();
+            write!(out, " {name}")
         }
         PayloadFault::NotObject | PayloadFault::Memory => Ok(()),
     }
@@ -142,19 +140,15 @@ fn put_payload_fault(out: &mut String, fault: &PayloadFault) -> Result<(), Alloc
     put_payload_fault_place(out, fault)
 }
 
-fn put_two(out: &mut String, first: &str, second: &str) -> Result<(), AllocError>
-    ensures { OnOk result (string_bytes out.new ≡ string_bytes out.old ++ (first.now ++ second.now)) }
-{
-    out.push_str(first)?;
-    out.push_str(second)
-}
-
 fn put_condition_fault(out: &mut String, fault: &ConditionFault) -> Result<(), AllocError>
     ensures { OnOk result (string_bytes out.new ≡ string_bytes out.old ++ condition_fault_text fault.now) }
 {
     match fault {
         ConditionFault::At(bytes) => write!(out, " at {bytes}"),
-        ConditionFault::Field(name) => put_two(out, " field ", name.as_str()),
+        ConditionFault::Field(name) => {
+            let name = name.as_str();
+            write!(out, " field {name}")
+        }
         ConditionFault::Kind => out.push_str(" kind"),
     }
 }
@@ -172,10 +166,7 @@ fn limit_text(name: LimitName) -> &'static str
 fn put_id(out: &mut String, id: MsgId) -> Result<(), AllocError>
     ensures { OnOk result (string_bytes out.new ≡ string_bytes out.old ++ (codes " " ++ id_text id.db id.number)) }
 {
-    let id = Id {
-        db: id.db,
-        number: id.number,
-    };
+    let id = Id(id);
     write!(out, " {id}")
 }
 
@@ -200,7 +191,10 @@ fn put_details(
             queue,
             consumer,
         } => put_agent(out, *number, queue, consumer),
-        Reply::Held(session) => put_two(out, " ", session_name(scripts, *session)),
+        Reply::Held(session) => {
+            let name = session_name(scripts, *session);
+            write!(out, " {name}")
+        }
         Reply::Payload(fault) => put_payload_fault(out, fault),
         Reply::BadCondition(fault) => put_condition_fault(out, fault),
         Reply::Limit(name) => out.push_str(limit_text(*name)),

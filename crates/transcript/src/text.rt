@@ -5,7 +5,7 @@ ghost use Rattle.transcript.specs.Text.{letter_of, other_of, id_text, slot_text,
 
 use aq_base::DbId;
 use payload_records::{List, Text};
-use queue_rows::SessionScript;
+use queue_rows::{MsgId, SessionScript, SlotRef};
 use serde_json::Value;
 use std::alloc::{AllocError, Global};
 use std::fmt;
@@ -30,12 +30,9 @@ pub(crate) fn other_of(db: DbId) -> DbId
 
 /// An id, which prints as `h7`.
 #[derive(Clone, Copy)]
-pub(crate) struct Id {
-    pub db: DbId,
-    pub number: u64,
-}
+pub(crate) struct Id(pub MsgId);
 
-/// A slot, which prints as `h7.2`.
+/// A slot of a message, which prints as `h7.2`.
 #[derive(Clone, Copy)]
 pub(crate) struct Slot {
     pub db: DbId,
@@ -44,11 +41,11 @@ pub(crate) struct Slot {
 }
 
 impl fmt::Display for Id {
-    ghost output = { λ id. Some (id_text id.db id.number) };
+    ghost output = { λ id. Some (id_text id.0.db id.0.number) };
 
     fn fmt<W: fmt::Write>(&self, f: &mut fmt::Formatter<W>) -> fmt::Result {
-        let letter = letter_of(self.db);
-        let number = self.number;
+        let Id(MsgId { db, number }) = *self;
+        let letter = letter_of(db);
         write!(f, "{letter}{number}")
     }
 }
@@ -57,10 +54,21 @@ impl fmt::Display for Slot {
     ghost output = { λ slot. Some (slot_text slot.db slot.id slot.number) };
 
     fn fmt<W: fmt::Write>(&self, f: &mut fmt::Formatter<W>) -> fmt::Result {
-        let letter = letter_of(self.db);
-        let id = self.id;
-        let number = self.number;
+        let Slot { db, id, number } = *self;
+        let letter = letter_of(db);
         write!(f, "{letter}{id}.{number}")
+    }
+}
+
+impl From<SlotRef> for Slot {
+    ghost from_gives = { λ at slot. slot ≡ record { db = at.db; id = at.id; number = at.slot } };
+
+    fn from(at: SlotRef) -> Self {
+        Slot {
+            db: at.db,
+            id: at.id,
+            number: u64::from(at.slot),
+        }
     }
 }
 
