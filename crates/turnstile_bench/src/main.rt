@@ -31,11 +31,15 @@ fn main(rt: HostRuntime) -> io::Result<()> {
     if word.as_str() != "measure" {
         return shows(&rt);
     }
-    for (effort, turns) in [(0, 20_000), (5_000, 1_000)] {
+    for (effort, turns, many) in [
+        (0, 20_000, 200_000),
+        (500, 5_000, 20_000),
+        (5_000, 1_000, 2_000),
+    ] {
         cost::compare(&rt, 1, turns, effort, ROUNDS)?;
         cost::compare(&rt, 4, turns, effort, ROUNDS)?;
         cost::compare(&rt, 66, turns / 20, effort, ROUNDS)?;
-        order::report(&rt, 8, turns, effort)?;
+        order::report(&rt, 8, many, effort)?;
     }
     Ok(())
 }
