@@ -5,6 +5,8 @@
 mod history;
 mod line;
 mod reply;
+#[cfg(test)]
+mod tests;
 mod text;
 mod told;
 mod word;
