@@ -1,2 +1,3 @@
-pub mod Mapping
+pub mod EntryLemmas
+pub mod IndexLemmas
 pub mod SessionLemmas

@@ -1,8 +1,10 @@
 //! Marks of sessions on the slots of messages.
 #![tactic(auto)]
 
+mod entries;
 mod locks;
 mod mark;
+mod numbers;
 mod session_table;
 
 pub use locks::{LockFault, RowLocks};

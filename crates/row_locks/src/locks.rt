@@ -216,6 +216,7 @@ impl RowLocks {
 
     fn put(&mut self, session: u32, mark: Mark)
         requires room { 0 < spare_of self.old session }
+        requires own { has_slot mark.id mark.slot (marks_of self.old session) ≡ false }
         requires free { IsFreeFor self.old session mark }
         ensures marks { marks_of self.new session ≡ marks_of self.old session ++ mark ∷ [] }
         ensures room { spare_of self.new session ≡ spare_of self.old session - 1 }
@@ -301,7 +302,8 @@ fn reserve_at(tables: &mut Vec<SessionTable>, at: usize) -> Result<(), AllocErro
 }
 
 fn put_at(tables: &mut Vec<SessionTable>, at: usize, mark: Mark)
-    requires { 0 < spare_of tables.old.items at }
+    requires room { 0 < spare_of tables.old.items at }
+    requires free { has_slot mark.id mark.slot (marks_of tables.old.items at) ≡ false }
     ensures { let old = slice_index_or tables.old.items at no_marks in tables.new.items ≡ slice_set tables.old.items at (record { marks = old.marks ++ mark ∷ []; spare = old.spare - 1 }) }
 {
     tables[at].put(mark);
