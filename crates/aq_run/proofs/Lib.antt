@@ -1,0 +1,12 @@
+pub mod Bounds
+pub mod Adding
+pub mod Removing
+pub mod Choosing
+pub mod Dequeued
+pub mod Keeping
+pub mod Pacing
+pub mod Going
+pub mod Turning
+pub mod Rounding
+pub mod Running
+pub mod Playing

@@ -1,0 +1,9 @@
+pub mod Serve
+pub mod Adding
+pub mod Answer
+pub mod Course
+pub mod Turn
+pub mod Catalog
+pub mod Plain
+pub mod Apply
+pub mod Within

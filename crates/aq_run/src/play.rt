@@ -1,0 +1,49 @@
+// The serial run of scripts over empty databases.
+ghost use Rattle.std.specs.Prelude.{◌≡◌, true, false, All, IfOk};
+ghost use Rattle.queue_rows.specs.Tables.{empty_tables};
+ghost use Rattle.queue_rows.specs.Serial.{IsSerial, IsSerialFront};
+ghost use Rattle.aq_run.specs.Serve.{IsRunBy, IsFrontBy};
+ghost use Rattle.script_text.specs.Script.{AreWithinLimits, IsShortScript};
+
+use crate::world::World;
+use payload_records::List;
+use queue_rows::{
+    History, SessionScript, legal_calls_in_order, serial_calls_all, serial_front_is_legal,
+    serial_is_legal,
+};
+use std::alloc::{AllocError, Global};
+
+/// A run's history, and whether the run came to its end.
+#[derive(Drop)]
+pub struct Played {
+    /// What was done.
+    pub history: History,
+    /// Whether that is all of the run.
+    pub is_whole: bool,
+}
+
+/// The serial run of these scripts, whole or as far as there was memory; `Err` where there was none to begin with.
+pub fn play(alloc: Global, scripts: List<SessionScript>) -> Result<Played, AllocError>
+    requires within { AreWithinLimits scripts }
+    requires short { All IsShortScript scripts }
+    ensures whole { IfOk result (λ p. p.is_whole ≡ true → IsSerial empty_tables empty_tables scripts p.history) }
+    ensures front { IfOk result (λ p. p.is_whole ≡ false → IsSerialFront empty_tables empty_tables scripts p.history) }
+    ensures run { IfOk result (λ p. p.is_whole ≡ true → IsRunBy scripts p.history) }
+    ensures first { IfOk result (λ p. IsFrontBy scripts p.history) }
+{
+    serial_is_legal();
+    serial_calls_all();
+    serial_front_is_legal();
+    legal_calls_in_order();
+    let mut world = World::new(alloc, scripts)?;
+    match world.run() {
+        Ok(()) => Ok(Played {
+            history: world.finish(),
+            is_whole: true,
+        }),
+        Err(AllocError) => Ok(Played {
+            history: world.finish(),
+            is_whole: false,
+        }),
+    }
+}
