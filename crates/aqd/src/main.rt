@@ -1,4 +1,79 @@
-// The program: it makes the words and the two ends, and ends with the status of the top call.
-ghost use Rattle.std.specs.Prelude.{◌≡◌, IfOk};
-ghost use Rattle.aqd.specs.Words.{word_of};
+//! The program: it makes the words, the input and the output, calls the server, and ends with its status.
 #![tactic(auto)]
+
+ghost use Rattle.std.specs.Prelude.{◌≡◌, IfOk, map};
+ghost use Rattle.aqd.specs.Words.{word_of, words_of};
+
+use aq_base::{ReaderSource, Words, WriterSink};
+use aq_run::serve;
+use std::alloc::{AllocError, Global};
+use std::env::{Env, FillError};
+use std::io;
+use std::process::ExitCode;
+
+/// The lengths that are tried for an argument, as powers of two: the last is longer than any system passes.
+const FIRST_POWER: u32 = 8;
+const LAST_POWER: u32 = 24;
+
+/// The argument at a place, of which 0 is the program's name, as its bytes, or None past the last.
+fn argument(alloc: Global, rt: &HostRuntime, at: usize) -> Result<Option<Vec<u8>>, AllocError> {
+    for power in FIRST_POWER..LAST_POWER {
+        let mut bytes = vec![in alloc; 0u8; 1 << power]?;
+        match rt.arg(at, &mut bytes) {
+            Ok(length) => {
+                bytes.truncate(length);
+                return Ok(Some(bytes));
+            }
+            Err(FillError::NotPresent) => return Ok(None),
+            Err(FillError::TooLong) => {}
+        }
+    }
+    Err(AllocError)
+}
+
+/// The arguments behind the program's name, each as its bytes.
+fn arguments(alloc: Global, rt: &HostRuntime) -> Result<Vec<Vec<u8>>, AllocError> {
+    let mut all = Vec::new(alloc);
+    for at in 1..usize::MAX {
+        match argument(alloc, rt, at)? {
+            Some(bytes) => all.push(bytes)?,
+            None => break,
+        }
+    }
+    Ok(all)
+}
+
+/// The word that an argument is: its text, or the empty word where it is none.
+fn word_of(argument: &[u8]) -> &str
+    ensures { result.now ≡ word_of argument.now }
+{
+    match str::from_utf8(argument) {
+        Ok(text) => text,
+        Err(_) => "",
+    }
+}
+
+fn words_of(alloc: Global, arguments: &[Vec<u8>]) -> Result<Words, AllocError>
+    ensures { IfOk result (λ words. words ≡ words_of arguments.now) }
+{
+    let mut words = Words::new(alloc);
+    for argument in arguments {
+        words.push(word_of(argument))?;
+    }
+    Ok(words)
+}
+
+fn words(alloc: Global, rt: &HostRuntime) -> Result<Words, AllocError> {
+    words_of(alloc, &arguments(alloc, rt)?)
+}
+
+fn main(rt: HostRuntime) -> ExitCode {
+    let alloc = rt.alloc();
+    let Ok(words) = words(alloc, &rt) else {
+        return ExitCode::from(4);
+    };
+    let mut input = ReaderSource::of(rt.reader());
+    let mut out = WriterSink::of(io::writer(&rt));
+    let outcome = serve(alloc, &words, &mut input, &mut out);
+    ExitCode::from(outcome.status)
+}
