@@ -1,9 +1,11 @@
 -- What a dequeue means: which message it gives, and what becomes of it.
-use Rattle.std.specs.Prelude.{ℕ, ◌+◌, ◌==◌, ◌&&◌, ◌||◌, ℤ, pos, int_lt, List, [], ◌∷◌, Bool, true, false, not, Option, Some, None, is_some, is_none, option_map, fold, filter, position, if◌then◌else◌}
+use Rattle.std.specs.Prelude.{ℕ, ◌+◌, ◌==◌, ◌&&◌, ◌||◌, ℤ, pos, int_lt, List, [], ◌∷◌, ◌++◌, Bool, true, false, not, Option, Some, None, is_some, is_none, option_map, fold, filter, position, if◌then◌else◌}
 use Rattle.std.specs.Option.{option_map_or}
 use Rattle.std.specs.Str.{bytes_eq}
 use Rattle.place_keys.specs.Place.{stands_before}
+use Rattle.row_locks.specs.Marks.{taken}
 use Rattle.row_locks.specs.declared.mark.Group.{Group}
+use Rattle.row_locks.specs.declared.mark.Mark.{Mark}
 use Rattle.queue_rows.specs.Rows.{find_table, find_queue, slot_of}
 use Rattle.queue_rows.specs.Tables.{lane_of}
 use Rattle.queue_rows.specs.Settling.{is_exception, is_ready}
@@ -154,14 +156,28 @@ abbrev pub taken_at_once : Look → ℕ → MsgRow → ℕ → Meaning
 taken_at_once l moment m slot = answers (message_reply l m slot) (commit_of l.tables moment (Remove m.id slot ∷ []))
     (let s = standing_at l m in record s { marks = without_mark m.id slot s.marks })
 
+-- the session's mark on the slot, with which it removes it or only locks it
+abbrev pub mark_on : Look → Bool → MsgRow → ℕ → Mark
+mark_on l removed m slot = record { id = m.id; slot = slot; removed = removed; group = mark_group l.table l.ask.consumer m }
+
+-- taken when the session commits: until then the slot is marked as removed
+abbrev pub taken_later : Look → MsgRow → ℕ → Meaning
+taken_later l m slot = answers (message_reply l m slot) []
+    (let s = standing_at l m in record s { marks = taken s.marks (mark_on l true m slot); pending = s.pending ++ Remove m.id slot ∷ [] })
+
+-- no other session can take it until this one ends its transaction
+abbrev pub locked : Look → MsgRow → ℕ → Meaning
+locked l m slot = answers (message_reply l m slot) []
+    (let s = standing_at l m in record s { marks = taken s.marks (mark_on l false m slot) })
+
 abbrev pub given_in : Mode → Visibility → Look → ℕ → MsgRow → ℕ → Meaning
 given_in modes.Remove visibilities.Immediate l moment m slot = taken_at_once l moment m slot
 given_in modes.RemoveNodata visibilities.Immediate l moment m slot = taken_at_once l moment m slot
 given_in modes.Browse visibility l moment m slot = answers (message_reply l m slot) [] (standing_at l m)
 given_in modes.Locked visibilities.Immediate l moment m slot = answers (message_reply l m slot) [] (standing_at l m)
-given_in modes.Remove visibilities.OnCommit l moment m slot = unbuilt
-given_in modes.RemoveNodata visibilities.OnCommit l moment m slot = unbuilt
-given_in modes.Locked visibilities.OnCommit l moment m slot = unbuilt
+given_in modes.Remove visibilities.OnCommit l moment m slot = taken_later l m slot
+given_in modes.RemoveNodata visibilities.OnCommit l moment m slot = taken_later l m slot
+given_in modes.Locked visibilities.OnCommit l moment m slot = locked l m slot
 
 abbrev pub given : Look → ℕ → MsgRow → Option ℕ → Meaning
 given l moment m None = unbuilt

@@ -1,5 +1,5 @@
 -- What an enqueue means.
-use Rattle.std.specs.Prelude.{ℕ, ◌+◌, ◌^◌, ◌||◌, ℤ, pos, negsuc, List, [], ◌∷◌, Bool, false, not, nat_le, Option, Some, None, is_some, option_map, Result, Ok, Err, if◌then◌else◌}
+use Rattle.std.specs.Prelude.{ℕ, ◌+◌, ◌^◌, ◌||◌, ℤ, pos, negsuc, List, [], ◌∷◌, ◌++◌, Bool, false, not, nat_le, Option, Some, None, is_some, option_map, Result, Ok, Err, if◌then◌else◌}
 use Rattle.payload_records.specs.Record.{record_of}
 use Rattle.payload_records.specs.declared.record.Record.{Record}
 use Rattle.payload_records.specs.declared.record.PayloadFault.{PayloadFault}
@@ -48,8 +48,12 @@ addition table ask cells id moment = record {
 abbrev pub added_at_once : Tables → Session → MsgRow → ℕ → Meaning
 added_at_once t s m moment = answers (replies.Enqueued (record { db = s.at; number = m.id })) (commit_of t moment (Add m ∷ [])) (record s { parked = None })
 
+-- kept with the session until it commits
+abbrev pub added_later : Session → MsgRow → Meaning
+added_later s m = answers (replies.Enqueued (record { db = s.at; number = m.id })) [] (record s { pending = s.pending ++ Add m ∷ []; parked = None })
+
 abbrev pub add : Visibility → Tables → Session → MsgRow → ℕ → Meaning
-add OnCommit t s m moment = unbuilt
+add OnCommit t s m moment = added_later s m
 add Immediate t s m moment = added_at_once t s m moment
 
 -- what is not built yet: named recipients, a named exception queue, and a message to stand before

@@ -12,5 +12,6 @@ pub mod Session
 pub mod Settling
 pub mod Statements
 pub mod Tables
+pub mod Transactions
 pub mod Turns
 pub mod World

@@ -5,6 +5,7 @@ use Rattle.queue_rows.specs.Meaning.{Meaning, unbuilt}
 use Rattle.queue_rows.specs.Administration.{administer}
 use Rattle.queue_rows.specs.Enqueueing.{enqueue}
 use Rattle.queue_rows.specs.Dequeueing.{dequeue}
+use Rattle.queue_rows.specs.Transactions.{commit, rollback}
 use Rattle.queue_rows.specs.World.{World, Database, database_at}
 use Rattle.queue_rows.specs.declared.history.SessionScript.{SessionScript}
 use Rattle.queue_rows.specs.declared.statement.Statement.{Statement}
@@ -16,8 +17,8 @@ meaning w i s (statements.Admin ask) = administer (database_at s.at w).tables s 
 meaning w i s (statements.Enqueue ask) = enqueue (database_at s.at w).tables s ask (database_at s.at w).next w.moment
 meaning w i s (statements.Dequeue ask) = dequeue (database_at s.at w).tables w.sessions i s ask w.moment
 meaning w i s (statements.Listen ask) = unbuilt
-meaning w i s statements.Commit = unbuilt
-meaning w i s statements.Rollback = unbuilt
+meaning w i s statements.Commit = commit (database_at s.at w).tables s w.moment
+meaning w i s statements.Rollback = rollback (database_at s.at w).tables s w.moment
 
 abbrev pub statement_of : Option SessionScript → ℕ → Option Statement
 statement_of None number = None
