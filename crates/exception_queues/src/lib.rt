@@ -11,3 +11,6 @@ pub use left::message_after;
 pub use lookup::{find_message, find_queue, find_table};
 pub use settling::{exception_queue_of, settle};
 pub use slots::{is_exception, slot_of};
+
+#[cfg(test)]
+mod tests;
