@@ -1,0 +1,16 @@
+//! What commits settle besides: which messages move to their exception queues, and which go.
+#![tactic(auto)]
+
+mod left;
+mod lookup;
+mod names;
+mod settling;
+mod slots;
+
+pub use left::message_after;
+pub use lookup::{find_message, find_queue, find_table};
+pub use settling::{exception_queue_of, settle};
+pub use slots::{is_exception, slot_of};
+
+#[cfg(test)]
+mod tests;

@@ -1,0 +1,145 @@
+// What becomes of the messages that changes name.
+ghost use Rattle.std.specs.Prelude.{◌≡◌, ◌++◌, [], IfOk, OnOk, Some, None, option_copied};
+ghost use Rattle.std.specs.List.{flat_map};
+ghost use Rattle.queue_rows.specs.Settling.{is_exception_of, named_or_default, exception_queue_of, retention_of, is_lost, is_handled, is_kept_by_none, settling_of, settling, names_of, settled};
+
+use crate::left::message_after;
+use crate::lookup::find_queue;
+use crate::names::{last_moment, names_of};
+use crate::slots::{
+    all_gone, any_expired, any_open, any_processed, is_exception, is_slot_processed,
+};
+use payload_records::{Copied, List, Name};
+use queue_rows::{Change, MsgRow, QueueRow, Tables};
+use std::alloc::AllocError;
+
+fn is_lost(message: &MsgRow) -> bool
+    ensures { result ≡ is_lost message.now }
+{
+    !message.moved && !any_open(&message.slots) && any_expired(&message.slots)
+}
+
+fn is_handled(message: &MsgRow) -> bool
+    ensures { result ≡ is_handled message.now }
+{
+    if message.moved {
+        is_slot_processed(message, 0)
+    } else {
+        all_gone(&message.slots)
+    }
+}
+
+fn retention_of(tables: &Tables, message: &MsgRow) -> u64
+    ensures { result ≡ retention_of tables.now message.now }
+{
+    match find_queue(tables, &message.queue) {
+        Some(queue) => queue.retention,
+        None => 0,
+    }
+}
+
+fn is_kept_by_none(tables: &Tables, message: &MsgRow) -> bool
+    ensures { result ≡ is_kept_by_none tables.now message.now }
+{
+    retention_of(tables, message) == 0 || !any_processed(&message.slots)
+}
+
+fn is_exception_of(table: &Name, queue: Option<&QueueRow>) -> bool
+    ensures { result ≡ is_exception_of table.now (option_copied queue.entry) }
+{
+    match queue {
+        Some(queue) => is_exception(queue.kind) && queue.table.as_str() == table.as_str(),
+        None => false,
+    }
+}
+
+fn named_or_default(tables: &Tables, table: &Name, named: &Option<Name>) -> Result<Name, AllocError>
+    ensures { IfOk result (λ name. name ≡ named_or_default tables.now table.now named.now) }
+{
+    match named {
+        Some(name) => {
+            if is_exception_of(table, find_queue(tables, name)) {
+                name.copied()
+            } else {
+                table.with_suffix("_e")
+            }
+        }
+        None => table.with_suffix("_e"),
+    }
+}
+
+/// The exception queue to which a message moves that nobody can take any more: the one that was named for it, where it
+/// is one of the message's table, else the default one of the table.
+pub fn exception_queue_of(tables: &Tables, message: &MsgRow) -> Result<Name, AllocError>
+    ensures { IfOk result (λ name. name ≡ exception_queue_of tables.now message.now) }
+{
+    match find_queue(tables, &message.queue) {
+        Some(queue) => named_or_default(tables, &queue.table, &message.exception),
+        None => message.queue.copied(),
+    }
+}
+
+fn settle_message(
+    changes: &mut List<Change>,
+    tables: &Tables,
+    message: &MsgRow,
+    moment: u64,
+) -> Result<(), AllocError>
+    ensures { OnOk result (changes.new ≡ changes.old ++ settling_of tables.now moment (Some message.now)) }
+{
+    if is_lost(message) {
+        let queue = exception_queue_of(tables, message)?;
+        return changes.push(Change::Moved {
+            id: message.id,
+            queue,
+            at: moment,
+        });
+    }
+    if is_handled(message) && is_kept_by_none(tables, message) {
+        return changes.push(Change::Purged { id: message.id });
+    }
+    Ok(())
+}
+
+// Puts behind `more` what the changes settle of the message.
+fn settle_named(
+    more: &mut List<Change>,
+    tables: &Tables,
+    changes: &List<Change>,
+    id: u64,
+) -> Result<(), AllocError>
+    ensures { OnOk result (more.new ≡ more.old ++ settling tables.now changes.now id) }
+{
+    match message_after(tables, changes, id)? {
+        Some(message) => settle_message(more, tables, &message, last_moment(changes, id)),
+        None => Ok(()),
+    }
+}
+
+fn settlings(tables: &Tables, changes: &List<Change>) -> Result<List<Change>, AllocError>
+    ensures { IfOk result (λ more. more ≡ flat_map (settling tables.now changes.now) (names_of changes.now)) }
+{
+    let names = names_of(changes)?;
+    let mut more = List::new(changes.allocator());
+    for id in &names {
+        settle_named(&mut more, tables, changes, *id)?;
+    }
+    Ok(more)
+}
+
+fn joined(first: List<Change>, second: List<Change>) -> Result<List<Change>, AllocError>
+    ensures { IfOk result (λ all. all ≡ first ++ second) }
+{
+    let mut items = first.into_vec();
+    items.append(&mut second.into_vec())?;
+    Ok(List::from_vec(items))
+}
+
+/// What a list of changes is with what it settles: for each message that it names, that it moves to its exception queue
+/// or goes.
+pub fn settle(tables: &Tables, changes: List<Change>) -> Result<List<Change>, AllocError>
+    ensures { IfOk result (λ all. all ≡ settled tables.now changes) }
+{
+    let more = settlings(tables, &changes)?;
+    joined(changes, more)
+}

@@ -1,0 +1,140 @@
+// Additions as their commit puts them in.
+ghost use Rattle.std.specs.Prelude.{◌≡◌, ◌<◌, ◌≤◌, ◌^◌, ◌-◌, map, All, IfOk, IfSome, Some, find, option_copied};
+ghost use Rattle.std.specs.Str.{bytes_eq};
+ghost use Rattle.queue_rows.specs.Commits.{slot_at_commit, completed_in, completed_by, completed, change_of};
+ghost use Rattle.sessions.specs.Numbers.{IsAbove, IsLowest, IsAddable, IsPendable};
+ghost use Rattle.sessions.specs.Running.{with_queues};
+
+use crate::places::place_at_commit;
+use exception_queues::find_table;
+use payload_records::{Copied, List, Name};
+use queue_rows::{Change, MsgRow, Pending, QueueRow, SlotRow, SlotState, TableRow, Tables};
+use std::alloc::{AllocError, Global};
+
+/// The number of a commit's group, and its moment.
+#[derive(Clone, Copy)]
+pub struct Stamp {
+    /// The group.
+    pub group: u64,
+    /// The moment.
+    pub moment: u64,
+}
+
+fn slot_at_commit(slot: &SlotRow, moment: u64) -> Result<SlotRow, AllocError>
+    ensures { IfOk result (λ new. new ≡ slot_at_commit moment slot.now) }
+{
+    let mut new = slot.copied()?;
+    if slot.at <= moment {
+        new.state = SlotState::Ready;
+        new.at = moment;
+    }
+    Ok(new)
+}
+
+fn slots_at_commit(slots: &List<SlotRow>, moment: u64) -> Result<List<SlotRow>, AllocError>
+    ensures { IfOk result (λ new. new ≡ map (slot_at_commit moment) slots.now) }
+{
+    let mut new = List::new(slots.allocator());
+    for slot in slots {
+        new.push(slot_at_commit(slot, moment)?)?;
+    }
+    Ok(new)
+}
+
+fn completed_in_table(
+    alloc: Global,
+    table: &TableRow,
+    queue: &QueueRow,
+    stamp: Stamp,
+    message: &MsgRow,
+) -> Result<MsgRow, AllocError>
+    requires group { stamp.group < 2 ^ 62 }
+    requires moment { stamp.moment ≤ 2 ^ 62 }
+    requires lowest { IsAbove (2 ^ 63 - 1) queue.now.lowest }
+    requires numbers { IsAddable message.now }
+    ensures { IfOk result (λ m. m ≡ completed_in (Some table.now) queue.now stamp.group stamp.moment message.now) }
+{
+    Ok(MsgRow {
+        id: message.id,
+        queue: message.queue.copied()?,
+        place: place_at_commit(alloc, table, queue, stamp.group, stamp.moment, message)?,
+        facts: message.facts.copied()?,
+        exception: Copied::copied(&message.exception)?,
+        enq: message.enq,
+        group: stamp.group,
+        moved: message.moved,
+        slots: slots_at_commit(&message.slots, stamp.moment)?,
+    })
+}
+
+fn completed_by(
+    alloc: Global,
+    tables: &Tables,
+    queue: Option<&QueueRow>,
+    stamp: Stamp,
+    message: &MsgRow,
+) -> Result<MsgRow, AllocError>
+    requires group { stamp.group < 2 ^ 62 }
+    requires moment { stamp.moment ≤ 2 ^ 62 }
+    requires lowest { IfSome (option_copied queue) (IsLowest (2 ^ 63 - 1)) }
+    requires numbers { IsAddable message.now }
+    ensures { IfOk result (λ m. m ≡ completed_by tables.now (option_copied queue.entry) stamp.group stamp.moment message.now) }
+{
+    let Some(queue) = queue else {
+        return message.copied();
+    };
+    match find_table(tables, &queue.table) {
+        Some(table) => completed_in_table(alloc, table, queue, stamp, message),
+        None => message.copied(),
+    }
+}
+
+fn queue_among<'a>(queues: &'a List<QueueRow>, name: &Name) -> Option<&'a QueueRow>
+    ensures { option_copied result ≡ find (λ r. bytes_eq r.name name.now) queues.now }
+{
+    queues.iter().find(|r| r.name.as_str() == name.as_str())
+}
+
+#[tactic(auto, using(crate::proofs::Each::found_each))]
+fn completed(
+    alloc: Global,
+    tables: &Tables,
+    queues: &List<QueueRow>,
+    stamp: Stamp,
+    message: &MsgRow,
+) -> Result<MsgRow, AllocError>
+    requires group { stamp.group < 2 ^ 62 }
+    requires moment { stamp.moment ≤ 2 ^ 62 }
+    requires lowest { All (IsLowest (2 ^ 63 - 1)) queues.now }
+    requires numbers { IsAddable message.now }
+    ensures { IfOk result (λ m. m ≡ completed (with_queues tables.now queues.now) stamp.group stamp.moment message.now) }
+{
+    let queue = queue_among(queues, &message.queue);
+    completed_by(alloc, tables, queue, stamp, message)
+}
+
+/// What a pending addition or removal becomes in the tables with these queues.
+pub fn change_of(
+    alloc: Global,
+    tables: &Tables,
+    queues: &List<QueueRow>,
+    stamp: Stamp,
+    pending: &Pending,
+) -> Result<Change, AllocError>
+    requires group { stamp.group < 2 ^ 62 }
+    requires moment { stamp.moment ≤ 2 ^ 62 }
+    requires lowest { All (IsLowest (2 ^ 63 - 1)) queues.now }
+    requires numbers { IsPendable pending.now }
+    ensures { IfOk result (λ change. change ≡ change_of (with_queues tables.now queues.now) stamp.group stamp.moment pending.now) }
+{
+    match pending {
+        Pending::Add(message) => Ok(Change::Enqueued(completed(
+            alloc, tables, queues, stamp, message,
+        )?)),
+        Pending::Remove { id, slot } => Ok(Change::Done {
+            id: *id,
+            slot: u64::from(*slot),
+            at: stamp.moment,
+        }),
+    }
+}

@@ -1,0 +1,16 @@
+//! What sessions hold, and what their transactions become when they end.
+#![tactic(auto)]
+
+mod commit;
+mod completed;
+mod places;
+mod rollback;
+mod running;
+mod state;
+
+pub use commit::commit_changes;
+pub use rollback::rollback_changes;
+pub use state::{Effect, PositionMove, SessionState, Verdict};
+
+#[cfg(test)]
+mod tests;

@@ -1,0 +1,61 @@
+// What a session keeps, and what a statement of it does.
+use aq_base::DbId;
+use payload_records::List;
+use queue_rows::{Change, Pending, Position, Reply};
+use row_locks::Mark;
+
+/// What a session keeps from statement to statement. Its marks stand in the locks of its database.
+#[derive(Drop)]
+pub struct SessionState {
+    /// The database in which it works.
+    pub at: DbId,
+    /// How many of its statements were called.
+    pub next: u32,
+    /// What it has done and not committed, in order.
+    pub pending: List<Pending>,
+    /// Where it stands in queues.
+    pub positions: List<Position>,
+    /// The moment since which its next statement waits, where it does.
+    pub parked: Option<u64>,
+    /// The number of the call whose reply was not told yet, where there is one.
+    pub untold: Option<u32>,
+    /// Whether it goes on.
+    pub live: bool,
+}
+
+/// What a statement does, as values: nothing is changed before these are taken over.
+#[derive(Drop)]
+pub struct Effect {
+    /// What the session is told, or that it waits.
+    pub verdict: Verdict,
+    /// What is committed at once; where it is empty there is no commit.
+    pub commit: List<Change>,
+    /// What the session has done besides, and not committed.
+    pub pend: Option<Pending>,
+    /// The mark that the session gets.
+    pub mark: Option<Mark>,
+    /// The mark that the session loses.
+    pub unmark: Option<Mark>,
+    /// Where the session stands afterwards.
+    pub position: PositionMove,
+}
+
+/// What becomes of a statement.
+#[derive(Drop)]
+pub enum Verdict {
+    /// It is answered.
+    Answer(Reply),
+    /// It waits for a message or for a commit, and is tried again.
+    Park,
+}
+
+/// What a statement does to where its session stands in queues.
+#[derive(Drop)]
+pub enum PositionMove {
+    /// It stays where it stands.
+    Keep,
+    /// It stands nowhere any more.
+    Forget,
+    /// It stands there in that queue.
+    Set(Position),
+}
