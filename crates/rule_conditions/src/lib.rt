@@ -3,6 +3,8 @@
 
 mod condition;
 mod facts;
+mod pattern;
 
 pub use condition::{Atom, Cmp, Cond, Product, Sum, Term};
 pub use facts::Facts;
+pub use pattern::like;
