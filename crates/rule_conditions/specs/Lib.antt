@@ -1,2 +1,5 @@
 pub mod Attempts
 pub mod Like
+pub mod Operands
+pub mod Truth
+pub mod Values

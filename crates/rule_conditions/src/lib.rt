@@ -3,8 +3,13 @@
 
 mod condition;
 mod facts;
+mod judge;
+mod kleene;
+mod operand;
 mod pattern;
 
 pub use condition::{Atom, Cmp, Cond, Product, Sum, Term};
 pub use facts::Facts;
+pub use judge::truth;
+pub use kleene::Truth;
 pub use pattern::like;
