@@ -1,4 +1,6 @@
 pub mod Attempts
+pub mod Check
+pub mod Faults
 pub mod Like
 pub mod Operands
 pub mod Truth

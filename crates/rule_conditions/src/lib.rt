@@ -3,6 +3,7 @@
 
 mod condition;
 mod facts;
+mod fault;
 mod judge;
 mod kleene;
 mod operand;
@@ -10,6 +11,10 @@ mod pattern;
 
 pub use condition::{Atom, Cmp, Cond, Product, Sum, Term};
 pub use facts::Facts;
+pub use fault::{CondFault, check};
 pub use judge::truth;
 pub use kleene::Truth;
 pub use pattern::like;
+
+#[cfg(test)]
+mod tests;
