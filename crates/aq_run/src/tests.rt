@@ -1,4 +1,4 @@
-// The worked rows of the first stage, and the devices that fail, on the top call.
+// Worked rows, and devices that fail, on the top call.
 use crate::serve;
 use aq_base::{MemorySink, MemorySource, Words};
 use std::alloc::{AllocError, Global};
@@ -53,6 +53,30 @@ s1.6 enqueue payload wrong-kind qty
 s1 end
 ";
 
+const MESSAGES_IN_ORDER: &str = "{\"session\":\"s1\",\"at\":\"home\"}
+{\"s\":\"s1\",\"do\":\"create-table\",\"table\":\"t\",\"fields\":{\"qty\":\"num\"}}
+{\"s\":\"s1\",\"do\":\"create-queue\",\"queue\":\"q\",\"table\":\"t\"}
+{\"s\":\"s1\",\"do\":\"start-queue\",\"queue\":\"q\"}
+{\"s\":\"s1\",\"do\":\"dequeue\",\"queue\":\"q\",\"visibility\":\"immediate\"}
+{\"s\":\"s1\",\"do\":\"enqueue\",\"queue\":\"q\",\"payload\":{\"qty\":1},\"visibility\":\"immediate\"}
+{\"s\":\"s1\",\"do\":\"enqueue\",\"queue\":\"q\",\"payload\":{\"qty\":2},\"visibility\":\"immediate\"}
+{\"s\":\"s1\",\"do\":\"dequeue\",\"queue\":\"q\",\"visibility\":\"immediate\"}
+{\"s\":\"s1\",\"do\":\"dequeue\",\"queue\":\"q\",\"visibility\":\"immediate\"}
+{\"s\":\"s1\",\"do\":\"dequeue\",\"queue\":\"q\",\"visibility\":\"immediate\"}
+";
+
+const MESSAGES_IN_ORDER_TEXT: &str = "s1.1 create-table ok
+s1.2 create-queue ok
+s1.3 start-queue ok
+s1.4 dequeue no-message
+s1.5 enqueue ok h1
+s1.6 enqueue ok h2
+s1.7 dequeue message h1 priority 1 retries 0 corr null {\"qty\":1}
+s1.8 dequeue message h2 priority 1 retries 0 corr null {\"qty\":2}
+s1.9 dequeue no-message
+s1 end
+";
+
 /// Which reads and writes fail, counted from 1, and for how many bytes the sink has room.
 #[derive(Clone, Copy)]
 struct Devices {
@@ -93,6 +117,7 @@ fn check(
     Ok(())
 }
 
+// Status 0 is tested here: a body that always answers want of memory meets every clause.
 #[test]
 fn rows_are_answered(rt: HostRuntime) -> Result<(), Fail> {
     let first_commit = "s1.1 create-table ok\ns1 end\n";
@@ -102,6 +127,7 @@ fn rows_are_answered(rt: HostRuntime) -> Result<(), Fail> {
         (FIRST_COMMIT, first_commit),
         (PRELUDE, prelude),
         (FIRST_PATH, FIRST_PATH_TEXT),
+        (MESSAGES_IN_ORDER, MESSAGES_IN_ORDER_TEXT),
         (REFUSED_PAYLOADS, REFUSED_PAYLOADS_TEXT),
     ] {
         check(&rt, WORKING, SERIAL, input, 0, text)?;
