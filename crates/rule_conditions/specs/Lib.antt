@@ -1,7 +1,10 @@
 pub mod Attempts
 pub mod Check
 pub mod Faults
+pub mod Grammar
 pub mod Like
 pub mod Operands
+pub mod Print
+pub mod Tokens
 pub mod Truth
 pub mod Values

@@ -16,5 +16,10 @@ pub use judge::truth;
 pub use kleene::Truth;
 pub use pattern::like;
 
+/// How many levels of NOT and parentheses a text of a condition may open.
+pub const DEPTH_LIMIT: usize = 64;
+/// The most bytes of a text in a text of a condition.
+pub const TEXT_LIMIT: usize = 4_000;
+
 #[cfg(test)]
 mod tests;
