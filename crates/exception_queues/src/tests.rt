@@ -65,7 +65,12 @@ fn tables(alloc: Global) -> Result<Tables, Fail> {
     ] {
         tables.queues.push(queue(alloc, name, table, kind)?)?;
     }
-    for (id, queue, exception) in [(1, "q", "x"), (2, "q", "y"), (3, "q", "q"), (4, "kept", "x")] {
+    for (id, queue, exception) in [
+        (1, "q", "x"),
+        (2, "q", "y"),
+        (3, "q", "q"),
+        (4, "kept", "x"),
+    ] {
         tables.messages.push(message(alloc, id, queue, exception)?)?;
     }
     Ok(tables)
@@ -88,35 +93,50 @@ fn told(alloc: Global, changes: &List<Change>) -> Result<String, Fail> {
     Ok(text)
 }
 
-// The change 'd' removes a slot, 'x' lets it expire. Each comes a second after the one before it, from the moment 10 on.
-const CASES: [(&[(char, u64, u64)], &str); 6] = [
+// The change 'd' removes a slot, 'x' lets it expire: of that message, that slot, at that moment.
+type Asked = (char, u64, u64, u64);
+
+const CASES: [(&[Asked], &str); 6] = [
     (&[], ""),
-    (&[('d', 1, 1)], "done 1.1 "),
+    (&[('d', 1, 1, 10)], "done 1.1 "),
     (
-        &[('d', 1, 1), ('x', 2, 1), ('d', 1, 2), ('x', 2, 2)],
+        &[
+            ('d', 1, 1, 10),
+            ('x', 2, 1, 11),
+            ('d', 1, 2, 12),
+            ('x', 2, 2, 13),
+        ],
         "done 1.1 expired 2.1 done 1.2 expired 2.2 purged 1 moved 2 to t_e at 13 ",
     ),
     (
-        &[('x', 3, 1), ('d', 3, 2), ('d', 1, 1), ('x', 1, 2)],
+        &[
+            ('x', 3, 1, 10),
+            ('d', 3, 2, 11),
+            ('d', 1, 1, 12),
+            ('x', 1, 2, 13),
+        ],
         "expired 3.1 done 3.2 done 1.1 expired 1.2 moved 3 to t_e at 11 moved 1 to x at 13 ",
     ),
-    (&[('d', 4, 1), ('d', 4, 2)], "done 4.1 done 4.2 "),
-    (&[('d', 9, 1)], "done 9.1 "),
+    (&[('d', 4, 1, 10), ('d', 4, 2, 11)], "done 4.1 done 4.2 "),
+    (&[('d', 9, 1, 10)], "done 9.1 "),
 ];
+
+fn change(asked: &Asked) -> Change {
+    let (what, id, slot, at) = *asked;
+    if what == 'd' {
+        Change::Done { id, slot, at }
+    } else {
+        Change::Expired { id, slot, at }
+    }
+}
 
 #[test]
 fn messages_that_are_named_move_or_go(rt: HostRuntime) -> Result<(), Fail> {
     let tables = tables(rt.alloc())?;
     for (asked, wanted) in CASES {
         let mut changes = List::new(rt.alloc());
-        let mut at = 10;
-        for (what, id, slot) in asked.iter().copied() {
-            changes.push(if what == 'd' {
-                Change::Done { id, slot, at }
-            } else {
-                Change::Expired { id, slot, at }
-            })?;
-            at += 1;
+        for one in asked {
+            changes.push(change(one))?;
         }
         let all = settle(&tables, changes)?;
         assert_eq!(rt; told(rt.alloc(), &all)?.as_str(), wanted);

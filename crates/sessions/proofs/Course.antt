@@ -1,6 +1,7 @@
 -- The changes of a commit, one after another, by the queues alone; and how low these come.
-use Rattle.std.proofs.Common.{◌≡◌, ℕ, ◌+◌, ◌<◌, ◌≤◌, ◌^◌, suc, List, [], ◌∷◌, ◌++◌, Option, Some, None, All, IfSome, length, length-append, refl, ap, sym, subst, ◌∙◌, append_assoc, arith, inl, inr}
+use Rattle.std.proofs.Common.{◌≡◌, ℕ, ◌+◌, ◌<◌, ◌≤◌, ◌^◌, suc, List, [], ◌∷◌, ◌++◌, true, false, Option, Some, None, All, IfSome, length, length-append, refl, ap, sym, subst, ◌∙◌, append_assoc, arith, inl, inr}
 use Rattle.std.specs.Prelude.{ℤ, pos, int_lt, find, position, slice_get}
+use Rattle.std.specs.List.{list_any}
 use Rattle.std.specs.Str.{bytes_eq}
 use Rattle.std.proofs.lemmas.Bool.{cases_Bool}
 use Rattle.std.proofs.lemmas.Int.{ints}
@@ -17,7 +18,7 @@ use Rattle.queue_rows.specs.declared.session.Pending.TheVariants.{Add, Remove}
 use Rattle.queue_rows.specs.declared.change.Change.{Change}
 use Rattle.queue_rows.specs.declared.change.Change.TheVariants.{Enqueued}
 use Rattle.sessions.specs.Numbers.{IsAbove, IsLowest, IsPendable}
-use Rattle.sessions.specs.Running.{with_queues, lowered_to, queues_after}
+use Rattle.sessions.specs.Running.{is_addition, with_queues, lowered_to, queues_after}
 use Rattle.sessions.proofs.Each.{found_each, got_each}
 
 -- ---- only the queue tables and the queues matter
@@ -67,6 +68,17 @@ next_change t queues group moment p more =
     let u : Tables = with_queues t queues in
     ap (λ rest. change_of u group moment p ∷ rest) (changes_same (after_change u (change_of u group moment p)) (with_queues t (queues_after t.tables queues (change_of u group moment p))) group moment more
     (tables_after u group moment p) (queues_are u group moment p))
+
+removals_same : (u v : Tables) (group moment : ℕ) (ps : List Pending) → list_any is_addition ps ≡ false → changes_from u group moment ps ≡ changes_from v group moment ps
+removals_same u v group moment [] none = refl
+removals_same u v group moment (Add m ∷ more) none = absurd (let e : true ≡ false = none in cc)
+removals_same u v group moment (Remove id slot ∷ more) none =
+    ap (λ rest. change_of u group moment (Remove id slot) ∷ rest) (removals_same (after_change u (change_of u group moment (Remove id slot))) (after_change v (change_of v group moment (Remove id slot))) group moment more none)
+
+-- removals look at no queue
+pub removals_alone : (t : Tables) (queues : List QueueRow) (group moment : ℕ) (ps : List Pending) → list_any is_addition ps ≡ false
+    → changes_from (with_queues t queues) group moment ps ≡ changes_from t group moment ps
+removals_alone t queues group moment ps none = removals_same (with_queues t queues) t group moment ps none
 
 -- ---- how low queues come
 

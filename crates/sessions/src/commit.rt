@@ -1,15 +1,46 @@
 // What a session commits.
-ghost use Rattle.std.specs.Prelude.{◌≡◌, ◌<◌, ◌≤◌, ◌^◌, All, IfOk, length};
+ghost use Rattle.std.specs.Prelude.{◌≡◌, ◌<◌, ◌≤◌, ◌^◌, ℕ, All, IfOk, length};
+ghost use Rattle.std.specs.List.{list_any};
 ghost use Rattle.queue_rows.specs.Commits.{changes_from, commit_of};
 ghost use Rattle.sessions.specs.Numbers.{IsLowest, IsPendable};
+ghost use Rattle.sessions.specs.Running.{is_addition, with_queues};
 
 use crate::SessionState;
 use crate::completed::{Stamp, change_of};
 use crate::running::lower_by;
 use exception_queues::settle;
 use payload_records::{Copied, List};
-use queue_rows::{Change, Pending, Tables};
+use queue_rows::{Change, Pending, QueueRow, Tables};
 use std::alloc::AllocError;
+
+fn is_addition(pending: &Pending) -> bool
+    ensures { result ≡ is_addition pending.now }
+{
+    match pending {
+        Pending::Add(_) => true,
+        Pending::Remove { .. } => false,
+    }
+}
+
+fn any_addition(pending: &List<Pending>) -> bool
+    ensures { result ≡ list_any is_addition pending.now }
+{
+    pending.iter().any(|p| is_addition(p))
+}
+
+// The queues that the walk over the pending changes begins with: removals look at none, so they copy none.
+#[tactic(auto, using(crate::proofs::Course::removals_alone))]
+fn queues_for(tables: &Tables, pending: &List<Pending>) -> Result<List<QueueRow>, AllocError>
+    requires lowest { All (IsLowest (2 ^ 62)) tables.now.queues }
+    ensures same { IfOk result (λ queues. (group moment : ℕ) → changes_from (with_queues tables.now queues) group moment pending.now ≡ changes_from tables.now group moment pending.now) }
+    ensures lowest { IfOk result (λ queues. All (IsLowest (2 ^ 62)) queues) }
+{
+    if any_addition(pending) {
+        tables.queues.copied()
+    } else {
+        Ok(List::new(pending.allocator()))
+    }
+}
 
 fn changes_from(
     tables: &Tables,
@@ -24,7 +55,7 @@ fn changes_from(
     ensures { IfOk result (λ changes. changes ≡ changes_from tables.now stamp.group stamp.moment pending.now) }
 {
     let alloc = pending.allocator();
-    let mut queues = tables.queues.copied()?;
+    let mut queues = queues_for(tables, pending)?;
     let mut changes = List::new(alloc);
     for pending in pending {
         let change = change_of(alloc, tables, &queues, stamp, pending)?;
