@@ -2,7 +2,7 @@
 ghost use Rattle.std.specs.Prelude.{◌≡◌, true, false, All, IfOk};
 ghost use Rattle.queue_rows.specs.Tables.{empty_tables};
 ghost use Rattle.queue_rows.specs.Serial.{IsSerial, IsSerialFront};
-ghost use Rattle.aq_run.specs.Serve.{IsRunBy, IsFrontBy};
+ghost use Rattle.aq_run.specs.Serve.{IsRunBy, IsFrontBy, HasNoCalls};
 ghost use Rattle.script_text.specs.Script.{AreWithinLimits, IsShortScript};
 
 use crate::world::World;
@@ -30,6 +30,7 @@ pub fn play(alloc: Global, scripts: List<SessionScript>) -> Result<Played, Alloc
     ensures front { IfOk result (λ p. p.is_whole ≡ false → IsSerialFront empty_tables empty_tables scripts p.history) }
     ensures run { IfOk result (λ p. p.is_whole ≡ true → IsRunBy scripts p.history) }
     ensures first { IfOk result (λ p. IsFrontBy scripts p.history) }
+    ensures calls { IfOk result (λ p. All HasNoCalls p.history.entries) }
 {
     serial_is_legal();
     serial_calls_all();

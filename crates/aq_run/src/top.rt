@@ -4,7 +4,7 @@ ghost use Rattle.std.specs.Io.KnownBytes.{Appends};
 ghost use Rattle.aq_base.specs.Causes.{Rose};
 ghost use Rattle.transcript.specs.Print.{print};
 ghost use Rattle.script_text.specs.Script.{script, AreWithinLimits, IsShortScript};
-ghost use Rattle.aq_run.specs.Serve.{is_serial_run, usage_text, bad_line_text, empty_history, WritesFront, Tells, IsRunBy, IsFrontBy, IsRunOf, AnswersFront, AnswersBad, IsRun, IsStatus};
+ghost use Rattle.aq_run.specs.Serve.{is_serial_run, usage_text, bad_line_text, empty_history, HasNoCalls, WritesFront, Tells, IsRunBy, IsFrontBy, IsRunOf, AnswersFront, AnswersBad, IsRun, IsStatus};
 
 use crate::play::{Played, play};
 use aq_base::{INPUT_LIMIT, ReadFault, Sink, Source, Words, read_up_to, write_all};
@@ -106,6 +106,7 @@ fn run_serial<O: Sink>(alloc: Global, scripts: List<SessionScript>, out: &mut O)
     ensures part { WritesFront (O.taken out.old) (O.taken out.new) (print result.history) }
     ensures write_fault { result.status ≡ 7 → Rose (O.faults out.old) (O.faults out.new) }
     ensures first { result.status ≡ 4 → (result.history ≡ empty_history) ⊎ IsFrontBy scripts result.history }
+    ensures calls { All HasNoCalls result.history.entries }
 {
     let Ok(Played { history, is_whole }) = play(alloc, scripts) else {
         return unbegun(alloc, 4);
@@ -131,6 +132,7 @@ fn run_bytes<O: Sink>(alloc: Global, bytes: &[u8], out: &mut O) -> Outcome
     ensures write_fault { result.status ≡ 7 → Rose (O.faults out.old) (O.faults out.new) }
     ensures first { result.status ≡ 4 → AnswersFront bytes.now result.history }
     ensures empty { result.status ≡ 2 → result.history ≡ empty_history }
+    ensures calls { All HasNoCalls result.history.entries }
 {
     match read(alloc, bytes) {
         Ok(scripts) => run_serial(alloc, scripts, out),
@@ -162,6 +164,7 @@ pub fn serve<I: Source, O: Sink>(
     ensures first { (result.status ≡ 4) → IfSome (I.left input.old) (λ xs. AnswersFront xs result.history) }
     ensures front { result.status ≡ 4 → WritesFront (O.taken out.old) (O.taken out.new) (print result.history) }
     ensures empty { (result.status ≡ 1) ⊎ (result.status ≡ 2) ⊎ (result.status ≡ 3) → result.history ≡ empty_history }
+    ensures calls { All HasNoCalls result.history.entries }
 {
     if !is_serial_run(words) {
         tell(out, USAGE.as_bytes());

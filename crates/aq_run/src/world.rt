@@ -9,6 +9,7 @@ ghost use Rattle.queue_rows.specs.Turns.{read_next, step_reading, ids_taken, tak
 ghost use Rattle.script_text.specs.Script.{IsBuiltScript, IsShortScript};
 ghost use Rattle.aq_run.specs.Answer.{moved};
 ghost use Rattle.queue_rows.specs.Session.{Session, is_same_db};
+ghost use Rattle.aq_run.specs.Serve.{HasNoCalls};
 ghost use Rattle.aq_run.specs.Course.{longest, AreAt, AreTold, TakesTurn, HearsReply};
 ghost use Rattle.aq_run.specs.Turn.{AnswersNext, Fits, HasRun};
 ghost use Rattle.aq_run.specs.Within.{IsWithin};
@@ -49,6 +50,7 @@ impl Model for World {
     ghost use Rattle.queue_rows.specs.World.{World as Run, uncounted};
     ghost use Rattle.script_text.specs.Script.{IsBuiltScript, IsShortScript};
     ghost use Rattle.aq_run.specs.Answer.{IsResting};
+    ghost use Rattle.aq_run.specs.Serve.{HasNoCalls};
 
     ghost Value = { Run };
 
@@ -76,6 +78,7 @@ impl Model for World {
       resting : All IsResting w.seats;
       built : All IsBuiltScript w.scripts;
       short : All IsShortScript w.scripts;
+      calls : All HasNoCalls w.entries;
     } };
 }
 
@@ -524,6 +527,7 @@ impl World {
     pub fn finish(self) -> History
         ensures entries { map uncounted result.entries ≡ self.entries }
         ensures begins { Begins empty_tables empty_tables self.scripts result }
+        ensures calls { All HasNoCalls result.entries }
     {
         History {
             home: Tables::new(self.alloc),

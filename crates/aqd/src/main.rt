@@ -13,6 +13,7 @@ use std::process::ExitCode;
 
 /// The lengths that are tried for an argument, as powers of two: the last is longer than any system passes.
 const FIRST_POWER: u32 = 8;
+
 const LAST_POWER: u32 = 24;
 
 /// The argument at a place, of which 0 is the program's name, as its bytes, or None past the last.

@@ -15,4 +15,5 @@ invariant_of-result c = record {
   resting = rw (c.in_ok-fresh_seats.ensures) (All-map IsResting fresh c.args.scripts (λ k d h. record { pending = refl; marks = refl; parked = refl }));
   built = c.requires.built;
   short = c.requires.short;
+  calls = rw (c.new-3.ensures) (λ k d h. absurd (omega arith));
 }
