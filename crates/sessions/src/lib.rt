@@ -11,6 +11,3 @@ mod state;
 pub use commit::commit_changes;
 pub use rollback::rollback_changes;
 pub use state::{Effect, PositionMove, SessionState, Verdict};
-
-#[cfg(test)]
-mod tests;
