@@ -1,13 +1,9 @@
 -- Entries beside the marks that are present in them.
-use Rattle.std.proofs.Common.{◌≡◌, ◌≢◌, ℕ, suc, zero, ◌+◌, ◌-◌, ◌<◌, ◌≤◌, List, [], ◌∷◌, ◌++◌, length, map, Bool, true, false, not, cond, IsTrue, ◌&&◌, ◌||◌, ◌==◌, ◌⊎◌, inl, inr, Option, Some, None, slice_set, slice_index_or, count_by, is_some, nat_eq, refl, sym, ◌∙◌, ap, subst, arith, add-one}
+use Rattle.std.proofs.Common.{◌≡◌, ◌≢◌, ℕ, suc, zero, List, [], ◌∷◌, ◌++◌, map, Bool, true, false, not, ◌&&◌, ◌||◌, inl, inr, Option, Some, None, slice_set, refl, sym, ◌∙◌, ap, subst, arith}
 use Rattle.std.specs.List.{list_any, filter}
-use Rattle.std.specs.Option.{option_map_or, option_map}
-use Rattle.std.proofs.lemmas.Bool.{cases_eq, cases_lt, cases_Bool, or_cases, and_parts, and_from, eqb-true, eq-eqb, both_ways}
-use Rattle.std.proofs.lemmas.List.{get_or-set_same, get_or-set_other, get_or_past, get_or_append_left}
-use Rattle.std.proofs.Math.Seq.{get_or-append_seam}
-use Rattle.row_locks.specs.Marks.{is_on, is_in_group, is_same_group, has_slot, has_group, has_removed, kept_beside, released}
-use Rattle.row_locks.specs.Entries.{present, entry_at, is_numbered, is_same_slot, IsSlotIndex, IsNumberIndex}
-use Rattle.row_locks.specs.declared.mark.Group.{Group}
+use Rattle.std.specs.Option.{option_map_or}
+use Rattle.std.proofs.lemmas.Bool.{cases_eq, cases_Bool, and_parts, and_from, both_ways}
+use Rattle.row_locks.specs.Entries.{present, entry_at}
 use Rattle.row_locks.specs.declared.mark.Mark.{Mark}
 
 pub present-push : (es : List (Option Mark)) (m : Mark) → present (es ++ Some m ∷ []) ≡ present es ++ m ∷ []
@@ -117,39 +113,3 @@ only_one test also es at m only = elim (cases_Bool (also m)) [
     | inr none ↦ none ∙ sym not_it
   ]
 ]
-
-pub is_only : (es : List (Option Mark)) (place : ℕ × ℕ → Option ℕ) (id slot at : ℕ) → IsSlotIndex es place → place (id, slot) ≡ Some at → (m : Mark) × IsOnly (is_on id slot) es at m
-is_only es place id slot at index is =
-    let r = index.real id slot at is in (
-      r.0,
-      record {
-        here = r.1;
-        passes = r.2;
-        others = λ k x ne there. elim (cases_Bool (is_on id slot x)) [
-          | inl it ↦
-              let same = and_parts (x.id == id) (x.slot == slot) it in
-              let P : ℕ → Type 0 = λ n. place (n, x.slot) ≡ Some k in
-              let Q : ℕ → Type 0 = λ n. place (id, n) ≡ Some k in
-              let at_k : place (id, slot) ≡ Some k = subst Q (eqb-true x.slot slot same.1) (subst P (eqb-true x.id id same.0) (index.found k x there)) in
-              let same_place : k ≡ at = cc (at_k, is) in
-              absurd (ne same_place)
-          | inr other ↦ other
-        ];
-      },
-    )
-
-pub indexed_slot : (es : List (Option Mark)) (place : ℕ × ℕ → Option ℕ) (id slot : ℕ) → IsSlotIndex es place → is_some (place (id, slot)) ≡ has_slot id slot (present es)
-indexed_slot es place id slot index = by (place (id, slot)) refl
-  where
-    by : (o : Option ℕ) → place (id, slot) ≡ o → is_some o ≡ has_slot id slot (present es)
-    by (Some at) is = let r = index.real id slot at is in sym (any_at (is_on id slot) es at r.0 r.1 r.2)
-    by None is = elim (cases_Bool (has_slot id slot (present es))) [
-      | inl some ↦
-          let p = place_of (is_on id slot) es some in
-          let same = and_parts (p.1.id == id) (p.1.slot == slot) p.3 in
-          let P : ℕ → Type 0 = λ n. place (n, p.1.slot) ≡ Some p.0 in
-          let Q : ℕ → Type 0 = λ n. place (id, n) ≡ Some p.0 in
-          let there : place (id, slot) ≡ Some p.0 = subst Q (eqb-true p.1.slot slot same.1) (subst P (eqb-true p.1.id id same.0) (index.found p.0 p.1 p.2)) in
-          cc (there, is)
-      | inr none ↦ sym none
-    ]

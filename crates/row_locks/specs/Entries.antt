@@ -1,7 +1,7 @@
 -- How a session's marks are kept: each at the place where it was taken, with an index of slots and one of groups' numbers.
-use Rattle.std.specs.Prelude.{◌≡◌, ◌==◌, ◌&&◌, ℕ, List, [], ◌∷◌, Bool, true, false, Option, Some, None, if◌then◌else◌, slice_index_or, count_by, nat_eq}
+use Rattle.std.specs.Prelude.{◌≡◌, ◌==◌, ◌&&◌, ℕ, List, [], ◌∷◌, Bool, false, Option, Some, None, if◌then◌else◌, slice_index_or, count_by, sum_by, nat_eq}
 use Rattle.std.specs.Option.{option_map_or}
-use Rattle.row_locks.specs.Marks.{is_on}
+use Rattle.row_locks.specs.Marks.{SessionMarks}
 use Rattle.std.specs.HashMap.{HashMap, get}
 use Rattle.row_locks.specs.declared.mark.Mark.{Mark}
 use Rattle.row_locks.specs.declared.numbers.NumberHold.{NumberHold}
@@ -22,10 +22,25 @@ is_numbered number mark = option_map_or (λ group. group.number == number) mark.
 abbrev pub is_same_slot : ℕ × ℕ → ℕ × ℕ → Bool
 is_same_slot a b = nat_eq a.0 b.0 && nat_eq a.1 b.1
 
--- the index gives the place of each mark by its slot, and nothing else
-pub record IsSlotIndex (entries : List (Option Mark)) (place : ℕ × ℕ → Option ℕ) : Type 0 where
-  pub found : (at : ℕ) (mark : Mark) → entry_at entries at ≡ Some mark → place (mark.id, mark.slot) ≡ Some at
-  pub real : (id slot at : ℕ) → place (id, slot) ≡ Some at → (mark : Mark) × (entry_at entries at ≡ Some mark) × (is_on id slot mark ≡ true)
+-- the entries of a session, and for how many more there is room
+pub record SessionEntries : Type 0 where
+  pub entries : List (Option Mark)
+  pub spare : ℕ
+
+abbrev pub no_entries : SessionEntries
+no_entries = record { entries = []; spare = 0 }
+
+-- what is seen of them
+abbrev pub shown : SessionEntries → SessionMarks
+shown table = record { marks = present table.entries; spare = table.spare }
+
+-- for how many marks there is room in all sessions
+abbrev pub all_spare : List SessionEntries → ℕ
+all_spare tables = sum_by (λ table. table.spare) tables
+
+-- the mark of a session at a place
+abbrev pub mark_at : List SessionEntries → ℕ → ℕ → Option Mark
+mark_at tables session at = entry_at (slice_index_or tables session no_entries).entries at
 
 -- the index counts the marks of each number
 abbrev pub IsNumberIndex : List (Option Mark) → (ℕ → ℕ) → Type 0

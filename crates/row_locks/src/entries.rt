@@ -1,25 +1,12 @@
 // The places of a session's marks.
-ghost use Rattle.std.specs.Prelude.{◌≡◌, ◌<◌, ◌≤◌, ◌+◌, ℕ, Some, None, IsSome, [], ◌∷◌, ◌++◌, length, slice_set, if◌then◌else◌, vec_len, vec_capacity, option_copied, true, false};
-ghost use Rattle.std.specs.HashMap.{get, spare};
+ghost use Rattle.std.specs.Prelude.{◌≡◌, ◌<◌, ◌≤◌, ◌+◌, Some, None, IsSome, [], ◌∷◌, ◌++◌, length, slice_set, vec_len, vec_capacity, option_copied, false};
 ghost use Rattle.std.specs.Option.{option_map, option_map_or};
 ghost use Rattle.row_locks.specs.Marks.{kept_beside, is_in_group, has_group};
-ghost use Rattle.row_locks.specs.Entries.{present, entry_at, is_same_slot};
+ghost use Rattle.row_locks.specs.Entries.{present, entry_at};
 
 use crate::mark::{Mark, is_in_group, is_on};
 use payload_records::Name;
-use std::collections::HashMap;
 use std::mem;
-
-/// Notes the place of a mark's slot.
-pub(crate) fn note(slots: &mut HashMap<(u64, u32), usize>, mark: &Mark, at: usize)
-    requires { 0 < spare slots.old }
-    ensures place { (q : ℕ × ℕ) → get is_same_slot slots.new q ≡ (if is_same_slot (mark.now.id, mark.now.slot) q then Some at else get is_same_slot slots.old q) }
-    ensures room { spare slots.old ≤ spare slots.new + 1 }
-{
-    let Ok(_) = slots.insert((mark.id, mark.slot), at) else {
-        unreachable!()
-    };
-}
 
 /// Puts a mark last, where there is room.
 pub(crate) fn put_last(entries: &mut Vec<Option<Mark>>, mark: Mark)
@@ -31,13 +18,6 @@ pub(crate) fn put_last(entries: &mut Vec<Option<Mark>>, mark: Mark)
     let Ok(()) = entries.push(Some(mark)) else {
         unreachable!()
     };
-}
-
-/// The place of a slot's mark.
-pub(crate) fn place_of(slots: &HashMap<(u64, u32), usize>, id: u64, slot: u32) -> Option<usize>
-    ensures { result ≡ get is_same_slot slots.now (id, slot) }
-{
-    slots.get(&(id, slot)).copied()
 }
 
 /// Makes the mark at a place removed where the new one is.
@@ -85,16 +65,6 @@ pub(crate) fn moved(entries: Vec<Option<Mark>>, mut room: Vec<Mark>) -> Vec<Mark
         }
     }
     room
-}
-
-/// Whether the mark at a place removed its slot.
-pub(crate) fn is_entry_removed(entries: &[Option<Mark>], at: usize) -> bool
-    ensures { result ≡ option_map_or (λ mark. mark.removed) (entry_at entries.now at) false }
-{
-    match entries.get(at) {
-        Some(Some(mark)) => mark.removed,
-        _ => false,
-    }
 }
 
 /// Whether the mark at a place is in the group.

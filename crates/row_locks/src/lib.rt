@@ -6,6 +6,8 @@ mod locks;
 mod mark;
 mod numbers;
 mod session_table;
+mod slots;
+mod tables;
 
 pub use locks::{LockFault, RowLocks};
 pub use mark::{Group, Mark};

@@ -6,6 +6,8 @@ ghost use Rattle.row_locks.specs.declared.locks.LockFault.TheVariants.{Held, Mem
 
 use crate::mark::{Group, Mark};
 use crate::session_table::SessionTable;
+use crate::slots::SlotIndex;
+use crate::tables::{keep_at, prepare, put_at, release_all_at, release_at, reserve_at, spare_at};
 use payload_records::{List, Name};
 use std::alloc::{AllocError, Global};
 use std::marker::Model;
@@ -15,18 +17,22 @@ use std::marker::Model;
 #[derive(Drop)]
 pub struct RowLocks {
     sessions: Vec<SessionTable>,
+    slots: SlotIndex,
+    spare: usize,
     alloc: Global,
 }
 
 impl Model for RowLocks {
-    ghost use Rattle.std.specs.Prelude.{List as Sequence, length, ◌≤◌, ◌^◌};
-    ghost use Rattle.row_locks.specs.Marks.{SessionMarks, AreHeldOnce};
+    ghost use Rattle.std.specs.Prelude.{List as Sequence, map};
+    ghost use Rattle.row_locks.specs.Marks.{SessionMarks};
+    ghost use Rattle.row_locks.specs.Entries.{shown};
+    ghost use Rattle.row_locks.specs.Slots.{hold_of, room_of, IsSound};
 
     ghost Value = { Sequence SessionMarks };
 
-    ghost view = { λ l. l.sessions.items };
+    ghost view = { λ l. map shown l.sessions.items };
 
-    ghost invariant = { λ l. (length l.sessions.items ≤ 2 ^ 32) × AreHeldOnce l.sessions.items };
+    ghost invariant = { λ l. IsSound l.sessions.items (hold_of l.slots) l.spare (room_of l.slots) };
 }
 
 /// Why a mark was not taken.
@@ -53,6 +59,8 @@ impl RowLocks {
     {
         RowLocks {
             sessions: Vec::new(alloc),
+            slots: SlotIndex::new(alloc),
+            spare: 0,
             alloc,
         }
     }
@@ -64,8 +72,19 @@ impl RowLocks {
         ensures marks { SameMarks self.old self.new }
         ensures rest { ChangesOnly self.old self.new session }
     {
-        reach(&mut self.sessions, session, self.alloc)?;
-        reserve_at(&mut self.sessions, session as usize)
+        let Some(more) = self.spare.checked_add(1) else {
+            return Err(AllocError);
+        };
+        prepare(
+            &mut self.sessions,
+            &mut self.slots,
+            session,
+            more,
+            self.alloc,
+        )?;
+        reserve_at(&mut self.sessions, session as usize)?;
+        self.spare = more;
+        Ok(())
     }
 
     /// Takes a mark for the session. An own mark on the slot is kept, and becomes removed where the new one is. `Held` tells
@@ -121,10 +140,7 @@ impl RowLocks {
     pub fn removed(&self, session: u32, id: u64, slot: u32) -> bool
         ensures { result ≡ has_removed id slot (marks_of self.now session) }
     {
-        match self.sessions.get(session as usize) {
-            None => false,
-            Some(table) => table.has_removed(id, slot),
-        }
+        self.slots.is_removed_by(session, id, slot)
     }
 
     /// Frees the session's mark on the slot, if it has one. It takes no memory.
@@ -133,8 +149,8 @@ impl RowLocks {
         ensures room { spare_of self.new session ≡ spare_of self.old session }
         ensures rest { ChangesOnly self.old self.new session }
     {
-        if (session as usize) < self.sessions.len() {
-            release_at(&mut self.sessions, session as usize, id, slot);
+        if let Some(hold) = self.slots.find_own(session, id, slot) {
+            release_at(&mut self.sessions, &mut self.slots, hold, id, slot);
         }
     }
 
@@ -146,7 +162,8 @@ impl RowLocks {
         ensures rest { ChangesOnly self.old self.new session }
     {
         if (session as usize) < self.sessions.len() {
-            release_all_at(&mut self.sessions, session as usize)
+            self.spare -= spare_at(&self.sessions, session as usize);
+            release_all_at(&mut self.sessions, &mut self.slots, session as usize)
         } else {
             List::new(self.alloc)
         }
@@ -222,7 +239,8 @@ impl RowLocks {
         ensures room { spare_of self.new session ≡ spare_of self.old session - 1 }
         ensures rest { ChangesOnly self.old self.new session }
     {
-        put_at(&mut self.sessions, session as usize, mark);
+        put_at(&mut self.sessions, &mut self.slots, session, mark);
+        self.spare -= 1;
     }
 
     fn keep(&mut self, session: u32, mark: &Mark)
@@ -230,8 +248,8 @@ impl RowLocks {
         ensures room { spare_of self.new session ≡ spare_of self.old session }
         ensures rest { ChangesOnly self.old self.new session }
     {
-        if (session as usize) < self.sessions.len() {
-            keep_at(&mut self.sessions, session as usize, mark);
+        if let Some(hold) = self.slots.find_own(session, mark.id, mark.slot) {
+            keep_at(&mut self.sessions, &mut self.slots, hold, mark);
         }
     }
 
@@ -240,12 +258,10 @@ impl RowLocks {
         ensures none { IfNone result (IsFreeSlot self.now id slot) }
         ensures once { AreHeldOnce self.now }
     {
-        for (session, table) in self.sessions.iter().enumerate() {
-            if table.has_slot(id, slot) {
-                return Some(session as u32);
-            }
+        match self.slots.find(id, slot) {
+            None => None,
+            Some(hold) => Some(hold.session),
         }
-        None
     }
 
     fn group_holder(&self, queue: &Name, number: u64, consumer: Option<&Name>) -> Option<u32>
@@ -263,10 +279,7 @@ impl RowLocks {
     fn has_own(&self, session: u32, id: u64, slot: u32) -> bool
         ensures { result ≡ has_slot id slot (marks_of self.now session) }
     {
-        match self.sessions.get(session as usize) {
-            None => false,
-            Some(table) => table.has_slot(id, slot),
-        }
+        self.slots.is_held_by(session, id, slot)
     }
 }
 
@@ -279,54 +292,4 @@ fn other_than(session: u32, holder: Option<u32>) -> Option<u32>
         None => None,
         Some(other) => { if other == session { None } else { Some(other) } }
     }
-}
-
-fn reach(tables: &mut Vec<SessionTable>, session: u32, alloc: Global) -> Result<(), AllocError>
-    ensures marks { SameMarks tables.old.items tables.new.items }
-    ensures spare { (s : ℕ) → spare_of tables.new.items s ≡ spare_of tables.old.items s }
-    ensures reached { OnOk result (session < length tables.new.items) }
-    ensures bound { length tables.old.items ≤ 2 ^ 32 → length tables.new.items ≤ 2 ^ 32 }
-{
-    while tables.len() <= session as usize {
-        tables.push(SessionTable::new(alloc))?;
-    }
-    Ok(())
-}
-
-fn reserve_at(tables: &mut Vec<SessionTable>, at: usize) -> Result<(), AllocError>
-    requires { at < length tables.old.items }
-    ensures ok { let old = slice_index_or tables.old.items at no_marks in OnOk result (tables.new.items ≡ slice_set tables.old.items at (record old { spare = old.spare + 1 })) }
-    ensures err { OnErr result (tables.new.items ≡ tables.old.items) }
-{
-    tables[at].reserve()
-}
-
-fn put_at(tables: &mut Vec<SessionTable>, at: usize, mark: Mark)
-    requires room { 0 < spare_of tables.old.items at }
-    requires free { has_slot mark.id mark.slot (marks_of tables.old.items at) ≡ false }
-    ensures { let old = slice_index_or tables.old.items at no_marks in tables.new.items ≡ slice_set tables.old.items at (record { marks = old.marks ++ mark ∷ []; spare = old.spare - 1 }) }
-{
-    tables[at].put(mark);
-}
-
-fn keep_at(tables: &mut Vec<SessionTable>, at: usize, mark: &Mark)
-    requires { at < length tables.old.items }
-    ensures { let old = slice_index_or tables.old.items at no_marks in tables.new.items ≡ slice_set tables.old.items at (record old { marks = map (kept_beside mark.now) old.marks }) }
-{
-    tables[at].keep(mark);
-}
-
-fn release_at(tables: &mut Vec<SessionTable>, at: usize, id: u64, slot: u32)
-    requires { at < length tables.old.items }
-    ensures { let old = slice_index_or tables.old.items at no_marks in tables.new.items ≡ slice_set tables.old.items at (record old { marks = released old.marks id slot }) }
-{
-    tables[at].release(id, slot);
-}
-
-fn release_all_at(tables: &mut Vec<SessionTable>, at: usize) -> List<Mark>
-    requires { at < length tables.old.items }
-    ensures all { result ≡ marks_of tables.old.items at }
-    ensures none { tables.new.items ≡ slice_set tables.old.items at no_marks }
-{
-    List::from_vec(tables[at].release_all())
 }

@@ -1,8 +1,52 @@
-use Rattle.std.proofs.Common.{◌^◌}
-use Rattle.row_locks.proofs.SessionLemmas.{held_after_put}
+use Rattle.std.proofs.Common.{◌<◌, length, map, slice_index_or, ◌∙◌, ap, arith}
+use Rattle.row_locks.specs.Entries.{no_entries, shown}
+use Rattle.row_locks.specs.Slots.{hold_of, room_of}
+use Rattle.row_locks.proofs.TableLemmas.{spare_there, none_held, table_with_room}
+use Rattle.row_locks.proofs.SoundLemmas.{spare_below, free_for_all, put_sound, put_shown, told_set, shown_length}
 use Rattle.row_locks.proofs.locks.RowLocks.put.Goals as goal
+
+pub put_at-requires-clause-room : goal.put_at-requires-clause-room
+put_at-requires-clause-room c =
+    let l = c.self.inside in
+    let some : 0 < (slice_index_or l.sessions.items c.args.session no_entries).spare = rw (← spare_there l.sessions.items c.args.session) (rw c.self.view_is c.requires.room) in
+    omega (arith, some, spare_below l.sessions.items c.args.session, c.self.invariant.within, c.self.invariant.fits)
+
+pub put_at-requires-clause-free : goal.put_at-requires-clause-free
+put_at-requires-clause-free c =
+    let l = c.self.inside in
+    none_held l.sessions.items (hold_of l.slots) c.args.mark.id c.args.mark.slot c.self.invariant.slots
+    (free_for_all l.sessions.items c.args.session c.args.mark (rw c.self.view_is c.requires.own) (rw c.self.view_is c.requires.free))
 
 pub invariant_of-self : goal.invariant_of-self
 invariant_of-self c =
-    held_after_put (2 ^ 32) c.self.inside.sessions.items c.put_at.new.tables.items c.args.session c.args.mark c.put_at.ensures (rw (← c.self.view_is) at c.requires.room)
-    (rw (← c.self.view_is) at c.requires.free) c.self.invariant
+    let l = c.self.inside in
+    let some : 0 < (slice_index_or l.sessions.items c.args.session no_entries).spare = rw (← spare_there l.sessions.items c.args.session) (rw c.self.view_is c.requires.room) in
+    let index = rw c.put_at.ensures.put at c.put_at.ensures.index in
+    rw c.put_at.ensures.put (
+    put_sound l.sessions.items (hold_of l.slots) (hold_of c.put_at.new.slots) l.spare (room_of l.slots) (room_of c.put_at.new.slots) c.args.session c.args.mark c.self.invariant
+    (table_with_room l.sessions.items c.args.session some) some (rw c.self.view_is c.requires.free) index c.put_at.ensures.room
+    )
+
+pub returns-clause-marks : goal.returns-clause-marks
+returns-clause-marks c =
+    let l = c.self.inside in
+    let some : 0 < (slice_index_or l.sessions.items c.args.session no_entries).spare = rw (← spare_there l.sessions.items c.args.session) (rw c.self.view_is c.requires.room) in
+    let there : c.args.session < length (map shown l.sessions.items) = rw (shown_length l.sessions.items) (table_with_room l.sessions.items c.args.session some) in
+    let told = told_set (map shown l.sessions.items) (map shown c.put_at.new.tables.items) c.args.session _ (ap (map shown) c.put_at.ensures.put ∙ put_shown l.sessions.items c.args.session c.args.mark) there in
+    rw (← c.self.view_is) told.0
+
+pub returns-clause-room : goal.returns-clause-room
+returns-clause-room c =
+    let l = c.self.inside in
+    let some : 0 < (slice_index_or l.sessions.items c.args.session no_entries).spare = rw (← spare_there l.sessions.items c.args.session) (rw c.self.view_is c.requires.room) in
+    let there : c.args.session < length (map shown l.sessions.items) = rw (shown_length l.sessions.items) (table_with_room l.sessions.items c.args.session some) in
+    let told = told_set (map shown l.sessions.items) (map shown c.put_at.new.tables.items) c.args.session _ (ap (map shown) c.put_at.ensures.put ∙ put_shown l.sessions.items c.args.session c.args.mark) there in
+    rw (← c.self.view_is) told.1
+
+pub returns-clause-rest : goal.returns-clause-rest
+returns-clause-rest c =
+    let l = c.self.inside in
+    let some : 0 < (slice_index_or l.sessions.items c.args.session no_entries).spare = rw (← spare_there l.sessions.items c.args.session) (rw c.self.view_is c.requires.room) in
+    let there : c.args.session < length (map shown l.sessions.items) = rw (shown_length l.sessions.items) (table_with_room l.sessions.items c.args.session some) in
+    let told = told_set (map shown l.sessions.items) (map shown c.put_at.new.tables.items) c.args.session _ (ap (map shown) c.put_at.ensures.put ∙ put_shown l.sessions.items c.args.session c.args.mark) there in
+    rw (← c.self.view_is) told.2

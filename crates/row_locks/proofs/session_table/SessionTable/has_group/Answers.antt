@@ -1,7 +1,7 @@
-use Rattle.std.proofs.Common.{◌≡◌, Option, None, Some, true, option_copied, sym, ◌∙◌, ap}
+use Rattle.std.proofs.Common.{◌≡◌, Option, option_copied, sym, ◌∙◌, ap}
 use Rattle.std.specs.Option.{option_map_or}
 use Rattle.row_locks.specs.Marks.{is_in_group}
-use Rattle.row_locks.specs.Entries.{present, entry_at, count_of}
+use Rattle.row_locks.specs.Entries.{present, count_of}
 use Rattle.row_locks.specs.declared.mark.Group.{Group}
 use Rattle.row_locks.specs.declared.numbers.NumberHold.{NumberHold}
 use Rattle.row_locks.proofs.IndexLemmas.{no_mark_in_group, entry_passes}
@@ -13,7 +13,7 @@ returns-in-None c =
     let group : Group = record { queue = c.args.queue.now; number = c.args.number; consumer = option_copied c.args.consumer } in
     let counted : Option NumberHold → _ = λ o. option_map_or (λ hold. hold.count) o 0 in
     let none : count_of t.numbers c.args.number ≡ 0 = ap counted (sym c.in-None.ensures.value) in
-    rw (← c.self.view_is) (sym (no_mark_in_group group (present t.entries.items) (sym (c.self.invariant.6 c.args.number) ∙ none)))
+    rw (← c.self.view_is) (sym (no_mark_in_group group (present t.entries.items) (sym (c.self.invariant.4 c.args.number) ∙ none)))
 
 pub returns-then-is_entry_in_group : goal.returns-then-is_entry_in_group
 returns-then-is_entry_in_group c =

@@ -1,0 +1,10 @@
+use Rattle.std.proofs.Common.{◌≡◌, ℕ, ◌≤◌, None, cond, take}
+use Rattle.row_locks.specs.Marks.{has_slot}
+use Rattle.row_locks.specs.Slots.{hold_of, room_of}
+use Rattle.row_locks.proofs.slots.SlotIndex.take_all.Given as goal
+
+abbrev pub invariant-loop-mark : goal.invariant-loop-mark
+invariant-loop-mark l = record {
+  holds : (i s : ℕ) → hold_of l.self i s ≡ cond (has_slot i s (take l.mark-index l.marks)) None (hold_of l.initial.self i s);
+  room : room_of l.initial.self ≤ room_of l.self;
+}

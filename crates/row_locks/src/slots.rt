@@ -1,0 +1,186 @@
+// The index of the marks of all sessions by their slots.
+ghost use Rattle.std.specs.Prelude.{◌≡◌, ◌<◌, ◌≤◌, ◌+◌, ◌/◌, ◌%◌, ℕ, Some, None, IsSome, IfSome, IfNone, OnOk, true, false, ◌==◌, ◌&&◌, if◌then◌else◌, length, slice_index_or, slice_set};
+ghost use Rattle.std.specs.HashMap.{get};
+ghost use Rattle.std.specs.Option.{option_map_or};
+ghost use Rattle.row_locks.specs.Marks.{has_slot};
+ghost use Rattle.row_locks.specs.Entries.{is_same_slot};
+ghost use Rattle.row_locks.specs.Slots.{hold_of, room_of, cell};
+
+use crate::mark::Mark;
+use std::alloc::{AllocError, Global};
+use std::collections::HashMap;
+
+/// How many neighbouring ids stand together.
+const BLOCK: u64 = 16;
+
+/// What the index tells of a mark.
+#[derive(Clone, Copy, Debug, PartialEq, Eq)]
+pub(crate) struct Hold {
+    /// The session that has the mark.
+    pub(crate) session: u32,
+    /// The mark's place among those of the session.
+    pub(crate) at: u32,
+    /// Whether the mark removed its slot.
+    pub(crate) removed: bool,
+}
+
+/// The index of the marks of all sessions by their slots. The slots of one number of sixteen neighbouring ids stand
+/// together, since sessions mostly touch messages in the order of their ids.
+#[derive(Drop)]
+pub(crate) struct SlotIndex {
+    blocks: HashMap<(u64, u32), [Option<Hold>; 16]>,
+}
+
+impl SlotIndex {
+    /// No marks, and no room. It takes no memory.
+    pub(crate) fn new(alloc: Global) -> SlotIndex
+        ensures { (id slot : ℕ) → hold_of result id slot ≡ None }
+    {
+        SlotIndex {
+            blocks: HashMap::new(alloc),
+        }
+    }
+
+    /// Makes room for so many marks.
+    pub(crate) fn reserve(&mut self, marks: usize) -> Result<(), AllocError>
+        ensures holds { (id slot : ℕ) → hold_of self.new id slot ≡ hold_of self.old id slot }
+        ensures ok { OnOk result (marks ≤ room_of self.new) }
+        ensures room { room_of self.old ≤ room_of self.new }
+    {
+        self.blocks.reserve(marks)
+    }
+
+    /// The mark on a slot.
+    pub(crate) fn find(&self, id: u64, slot: u32) -> Option<Hold>
+        ensures { result ≡ hold_of self.now id slot }
+    {
+        match self.blocks.get(&(id / BLOCK, slot)) {
+            None => None,
+            Some(holds) => holds[(id % BLOCK) as usize],
+        }
+    }
+
+    /// The mark on a slot, where the session has it.
+    pub(crate) fn find_own(&self, session: u32, id: u64, slot: u32) -> Option<Hold>
+        ensures some { IfSome result (λ hold. hold_of self.now id slot ≡ Some hold) }
+        ensures own { IfSome result (λ hold. hold.session ≡ session) }
+        ensures none { IfNone result (option_map_or (λ hold. hold.session == session) (hold_of self.now id slot) false ≡ false) }
+    {
+        let hold = self.find(id, slot)?;
+        if hold.session == session {
+            Some(hold)
+        } else {
+            None
+        }
+    }
+
+    /// Whether the session has a mark on a slot.
+    pub(crate) fn is_held_by(&self, session: u32, id: u64, slot: u32) -> bool
+        ensures { result ≡ option_map_or (λ hold. hold.session == session) (hold_of self.now id slot) false }
+    {
+        match self.find(id, slot) {
+            None => false,
+            Some(hold) => hold.session == session,
+        }
+    }
+
+    /// Whether the session has a mark on a slot by which it removed the slot.
+    pub(crate) fn is_removed_by(&self, session: u32, id: u64, slot: u32) -> bool
+        ensures { result ≡ option_map_or (λ hold. (hold.session == session) && hold.removed) (hold_of self.now id slot) false }
+    {
+        match self.find(id, slot) {
+            None => false,
+            Some(hold) => hold.session == session && hold.removed,
+        }
+    }
+
+    /// Puts a mark in, where there is room.
+    pub(crate) fn put(&mut self, id: u64, slot: u32, hold: Hold)
+        requires { 0 < room_of self.old }
+        ensures holds { (i s : ℕ) → hold_of self.new i s ≡ (if is_same_slot (id, slot) (i, s) then Some hold else hold_of self.old i s) }
+        ensures room { room_of self.old ≤ room_of self.new + 1 }
+    {
+        if !self.blocks.contains_key(&(id / BLOCK, slot)) {
+            self.begin(id, slot);
+        }
+        self.write(id, slot, Some(hold));
+    }
+
+    fn begin(&mut self, id: u64, slot: u32)
+        requires room { 0 < room_of self.old }
+        requires absent { get is_same_slot self.old.blocks (id / 16, slot) ≡ None }
+        ensures there { IsSome (get is_same_slot self.new.blocks (id / 16, slot)) }
+        ensures holds { (i s : ℕ) → hold_of self.new i s ≡ hold_of self.old i s }
+        ensures room { room_of self.old ≤ room_of self.new + 1 }
+    {
+        let Ok(_) = self.blocks.insert((id / BLOCK, slot), [None; 16]) else {
+            unreachable!()
+        };
+    }
+
+    fn write(&mut self, id: u64, slot: u32, hold: Option<Hold>)
+        requires there { IsSome (get is_same_slot self.old.blocks (id / 16, slot)) }
+        ensures holds { (i s : ℕ) → hold_of self.new i s ≡ (if is_same_slot (id, slot) (i, s) then hold else hold_of self.old i s) }
+        ensures room { room_of self.new ≡ room_of self.old }
+    {
+        if let Some(holds) = self.blocks.get_mut(&(id / BLOCK, slot)) {
+            set_cell(holds, (id % BLOCK) as usize, hold);
+        }
+    }
+
+    /// Writes what the mark on a slot is now.
+    pub(crate) fn change(&mut self, id: u64, slot: u32, hold: Hold)
+        requires { IsSome (hold_of self.old id slot) }
+        ensures holds { (i s : ℕ) → hold_of self.new i s ≡ (if is_same_slot (id, slot) (i, s) then Some hold else hold_of self.old i s) }
+        ensures room { room_of self.new ≡ room_of self.old }
+    {
+        self.write(id, slot, Some(hold));
+    }
+
+    /// Takes the mark on a slot out, where there is one. It takes no memory.
+    pub(crate) fn take(&mut self, id: u64, slot: u32)
+        ensures holds { (i s : ℕ) → hold_of self.new i s ≡ (if is_same_slot (id, slot) (i, s) then None else hold_of self.old i s) }
+        ensures room { room_of self.old ≤ room_of self.new }
+    {
+        if self.blocks.contains_key(&(id / BLOCK, slot)) {
+            self.write(id, slot, None);
+            self.end_empty(id, slot);
+        }
+    }
+
+    /// Takes the marks on all those slots out. It takes no memory.
+    pub(crate) fn take_all(&mut self, marks: &[Mark])
+        ensures holds { (i s : ℕ) → hold_of self.new i s ≡ (if has_slot i s marks.now then None else hold_of self.old i s) }
+        ensures room { room_of self.old ≤ room_of self.new }
+    {
+        for mark in marks {
+            self.take(mark.id, mark.slot);
+        }
+    }
+
+    fn end_empty(&mut self, id: u64, slot: u32)
+        ensures holds { (i s : ℕ) → hold_of self.new i s ≡ hold_of self.old i s }
+        ensures room { room_of self.old ≤ room_of self.new }
+    {
+        if self.is_empty_block(id, slot) {
+            self.blocks.remove(&(id / BLOCK, slot));
+        }
+    }
+
+    fn is_empty_block(&self, id: u64, slot: u32) -> bool
+        ensures { result ≡ true → (at : ℕ) → cell (get is_same_slot self.now.blocks (id / 16, slot)) at ≡ None }
+    {
+        match self.blocks.get(&(id / BLOCK, slot)) {
+            None => false,
+            Some(holds) => holds.iter().all(|hold| hold.is_none()),
+        }
+    }
+}
+
+fn set_cell(holds: &mut [Option<Hold>; 16], at: usize, hold: Option<Hold>)
+    requires { at < 16 }
+    ensures set { holds.new ≡ slice_set holds.old at hold }
+    ensures whole { length holds.old ≡ 16 }
+{
+    holds[at] = hold;
+}
