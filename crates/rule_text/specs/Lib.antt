@@ -1,0 +1,5 @@
+pub mod Lexing
+pub mod Outline
+pub mod PrintReadable
+pub mod Printing
+pub mod Reading
