@@ -1,12 +1,12 @@
 -- The changes of a commit, one after another, by the queues alone; and how low these come.
 use Rattle.std.proofs.Common.{◌≡◌, ℕ, ◌+◌, ◌<◌, ◌≤◌, ◌^◌, suc, List, [], ◌∷◌, ◌++◌, true, false, Option, Some, None, All, IfSome, length, length-append, refl, ap, sym, subst, ◌∙◌, append_assoc, arith, inl, inr}
-use Rattle.std.specs.Prelude.{ℤ, pos, int_lt, find, position, slice_get}
+use Rattle.std.specs.Prelude.{ℤ, pos, int_lt, find}
 use Rattle.std.specs.List.{list_any}
 use Rattle.std.specs.Str.{bytes_eq}
 use Rattle.std.proofs.lemmas.Bool.{cases_Bool}
 use Rattle.std.proofs.lemmas.Int.{ints}
-use Rattle.std.proofs.lemmas.List.Elements.{All-head, All-same, All-set, All-weaker}
-use Rattle.queue_rows.specs.Rows.{find_table, find_queue, set_some, changed_some, changed_at}
+use Rattle.std.proofs.lemmas.List.Elements.{All-head, All-same, All-weaker}
+use Rattle.queue_rows.specs.Rows.{find_table, find_queue}
 use Rattle.queue_rows.specs.Tables.{lane_of, min_int, is_grouped_table, after_change}
 use Rattle.queue_rows.specs.Commits.{has_before, lane_at_commit, place_at_commit, completed_in, completed_by, completed, change_of, changes_from}
 use Rattle.queue_rows.specs.declared.tables.Tables.{Tables}
@@ -19,7 +19,7 @@ use Rattle.queue_rows.specs.declared.change.Change.{Change}
 use Rattle.queue_rows.specs.declared.change.Change.TheVariants.{Enqueued}
 use Rattle.sessions.specs.Numbers.{IsAbove, IsLowest, IsPendable}
 use Rattle.sessions.specs.Running.{is_addition, with_queues, lowered_to, queues_after}
-use Rattle.sessions.proofs.Each.{found_each, got_each}
+use Rattle.sessions.proofs.Each.{found_each, first_each}
 
 -- ---- only the queue tables and the queues matter
 
@@ -111,7 +111,7 @@ by_above : (t : Tables) (queue : Option QueueRow) (group n moment : ℕ) (m : Ms
 by_above t None group n moment m lane low = omega (arith, ints, lane)
 by_above t (Some queue) group n moment m lane low = in_above (find_table t queue.table) queue group n moment m lane low
 
-min_above : (n : ℕ) (a b : ℤ) → IsAbove n a → IsAbove n b → IsAbove n (min_int a b)
+pub min_above : (n : ℕ) (a b : ℤ) → IsAbove n a → IsAbove n b → IsAbove n (min_int a b)
 min_above n a b h k = elim (cases_Bool (int_lt a b)) [ inl less ↦ rw less h | inr more ↦ rw more k ]
 
 lowered_above : (tables : List TableRow) (place : List ℤ) (n : ℕ) (queue : QueueRow) → IsAbove n (lane_of place) → IsLowest n queue → IsLowest n (lowered_to tables place queue)
@@ -119,16 +119,6 @@ lowered_above tables place n queue lane low = elim (cases_Bool (is_grouped_table
   | inl grouped ↦ rw grouped low
   | inr single ↦ rw single (min_above n queue.lowest (lane_of place) low lane)
 ]
-
-some_above : (f : QueueRow → QueueRow) (n i : ℕ) (queues : List QueueRow) (found : Option QueueRow) → ((q : QueueRow) → IsLowest n q → IsLowest n (f q))
-    → IfSome found (IsLowest n) → All (IsLowest n) queues → All (IsLowest n) (set_some queues i (changed_some f found))
-some_above f n i queues None keeps low all = all
-some_above f n i queues (Some q) keeps low all = All-set (IsLowest n) queues i (f q) (keeps q low) all
-
-at_above : (f : QueueRow → QueueRow) (n : ℕ) (queues : List QueueRow) (at : Option ℕ) → ((q : QueueRow) → IsLowest n q → IsLowest n (f q))
-    → All (IsLowest n) queues → All (IsLowest n) (changed_at f at queues)
-at_above f n queues None keeps all = all
-at_above f n queues (Some i) keeps all = some_above f n i queues (slice_get queues i) keeps (got_each (IsLowest n) queues i all) all
 
 after_above : (t : Tables) (queues : List QueueRow) (group moment n b : ℕ) (p : Pending) → b ≤ n → 2 ^ 62 ≡ b → IsPendable p → All (IsLowest n) queues
     → All (IsLowest (n + 1)) (queues_after t.tables queues (change_of (with_queues t queues) group moment p))
@@ -138,7 +128,7 @@ after_above t queues group moment n b (Add m) le is h all =
     let lane : IsAbove n (lane_of m.place) = omega (arith, ints, old, le) in
     let row : MsgRow = completed (with_queues t queues) group moment m in
     let new : IsAbove (n + 1) (lane_of row.place) = by_above (with_queues t queues) (find_queue (with_queues t queues) m.queue) group n moment m lane (found_each (IsLowest n) (λ r. bytes_eq r.name m.queue) queues all) in
-    at_above (lowered_to t.tables row.place) (n + 1) queues (position (λ q. bytes_eq q.name row.queue) queues) (λ q low. lowered_above t.tables row.place (n + 1) q new low) (lowest_within n (n + 1) queues (omega arith) all)
+    first_each (IsLowest (n + 1)) (λ q. bytes_eq q.name row.queue) (lowered_to t.tables row.place) queues (λ q low. lowered_above t.tables row.place (n + 1) q new low) (lowest_within n (n + 1) queues (omega arith) all)
 
 -- the same, where the changes so far are counted
 pub next_lowest : (t : Tables) (queues : List QueueRow) (group moment b : ℕ) (p : Pending) (changes : List Change) (c : Change) → 2 ^ 62 ≡ b → IsPendable p

@@ -1,2 +1,5 @@
+pub mod Committing
 pub mod Course
 pub mod Each
+pub mod Keeping
+pub mod Retrying

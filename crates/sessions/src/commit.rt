@@ -4,6 +4,7 @@ ghost use Rattle.std.specs.List.{list_any};
 ghost use Rattle.queue_rows.specs.Commits.{changes_from, commit_of};
 ghost use Rattle.sessions.specs.Numbers.{IsLowest, IsPendable};
 ghost use Rattle.sessions.specs.Running.{is_addition, with_queues};
+ghost use Rattle.sessions.specs.Within.{IsWithin, IsPendingWithin};
 
 use crate::SessionState;
 use crate::completed::{Stamp, change_of};
@@ -65,6 +66,27 @@ fn changes_from(
     Ok(changes)
 }
 
+/// What pending additions and removals become when they are committed at that moment, as one transaction.
+pub fn changes_of(
+    tables: &Tables,
+    pending: &List<Pending>,
+    moment: u64,
+) -> Result<List<Change>, AllocError>
+    requires moment { moment ≤ 2 ^ 62 }
+    requires group { tables.now.transaction < 2 ^ 62 }
+    requires count { length pending.now < 2 ^ 61 }
+    requires lowest { All (IsLowest (2 ^ 62)) tables.now.queues }
+    requires numbers { All IsPendable pending.now }
+    ensures changes { IfOk result (λ changes. changes ≡ commit_of tables.now moment pending.now) }
+    ensures within { (n g r : ℕ) → All (IsPendingWithin n g r tables.now.transaction) pending.now → IfOk result (λ changes. All (IsWithin n g r) changes) }
+{
+    let stamp = Stamp {
+        group: tables.transaction,
+        moment,
+    };
+    settle(tables, changes_from(tables, stamp, pending)?)
+}
+
 /// What a session's pending additions and removals become when it commits at that moment.
 pub fn commit_changes(
     tables: &Tables,
@@ -76,11 +98,8 @@ pub fn commit_changes(
     requires count { length session.now.pending < 2 ^ 61 }
     requires lowest { All (IsLowest (2 ^ 62)) tables.now.queues }
     requires numbers { All IsPendable session.now.pending }
-    ensures { IfOk result (λ changes. changes ≡ commit_of tables.now moment session.now.pending) }
+    ensures changes { IfOk result (λ changes. changes ≡ commit_of tables.now moment session.now.pending) }
+    ensures within { (n g r : ℕ) → All (IsPendingWithin n g r tables.now.transaction) session.now.pending → IfOk result (λ changes. All (IsWithin n g r) changes) }
 {
-    let stamp = Stamp {
-        group: tables.transaction,
-        moment,
-    };
-    settle(tables, changes_from(tables, stamp, &session.pending)?)
+    changes_of(tables, &session.pending, moment)
 }

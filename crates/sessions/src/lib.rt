@@ -8,6 +8,9 @@ mod rollback;
 mod running;
 mod state;
 
-pub use commit::commit_changes;
+pub use commit::{changes_of, commit_changes};
 pub use rollback::rollback_changes;
 pub use state::{Effect, PositionMove, SessionState, Verdict};
+
+#[cfg(test)]
+mod tests;

@@ -1,8 +1,9 @@
 // What a session's rollback commits.
-ghost use Rattle.std.specs.Prelude.{◌≡◌, ◌<◌, ◌≤◌, ◌^◌, ◌++◌, All, IfOk, IfSome, OnOk, option_copied};
+ghost use Rattle.std.specs.Prelude.{◌≡◌, ◌<◌, ◌≤◌, ◌^◌, ◌+◌, ◌++◌, ℕ, All, IfOk, IfSome, OnOk, option_copied};
 ghost use Rattle.std.specs.List.{flat_map};
 ghost use Rattle.queue_rows.specs.Transactions.{retry_until, expiry_of, retried_to, retry_slot, retry_in, retry_message, retry_of, rollback_of};
 ghost use Rattle.sessions.specs.Numbers.{IsCountable, AreCountable, IsDelaying};
+ghost use Rattle.sessions.specs.Within.{IsWithin, IsMessageWithin};
 
 use crate::SessionState;
 use exception_queues::{find_message, find_queue, is_exception, settle, slot_of};
@@ -177,7 +178,8 @@ pub fn rollback_changes(
     requires moment { moment ≤ 2 ^ 62 }
     requires delays { All IsDelaying tables.now.queues }
     requires retries { All AreCountable tables.now.messages }
-    ensures { IfOk result (λ changes. changes ≡ rollback_of tables.now moment session.now.pending) }
+    ensures changes { IfOk result (λ changes. changes ≡ rollback_of tables.now moment session.now.pending) }
+    ensures within { (n g r : ℕ) → All (IsMessageWithin r) tables.now.messages → IfOk result (λ changes. All (IsWithin n g (r + 1)) changes) }
 {
     settle(tables, retries_of(tables, &session.pending, moment)?)
 }

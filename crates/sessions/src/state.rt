@@ -54,7 +54,7 @@ pub enum Verdict {
 pub enum PositionMove {
     /// It stays where it stands.
     Keep,
-    /// It stands nowhere any more.
+    /// It stands nowhere any more in the queue that was asked, for the consumer that was.
     Forget,
     /// It stands there in that queue.
     Set(Position),
