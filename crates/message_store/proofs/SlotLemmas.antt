@@ -1,0 +1,120 @@
+-- How many slots a change can add to the messages of a number.
+use Rattle.std.proofs.Common.{◌≡◌, ℕ, zero, suc, ◌+◌, ◌<◌, ◌≤◌, ◌==◌, List, [], ◌∷◌, length, length-append, take, drop, get_or, Bool, true, false, cond, not, filter, Option, Some, None, refl, ap, ◌∙◌, arith}
+use Rattle.std.specs.Prelude.{find, position, slice_get, sum_by}
+use Rattle.std.specs.Str.{bytes_eq}
+use Rattle.std.proofs.lemmas.Bool.{eqb-true}
+use Rattle.std.proofs.lemmas.List.{length-set}
+use Rattle.std.proofs.lemmas.List.Filters.{sum_by-filter_both}
+use Rattle.std.proofs.lemmas.List.Sums.{sum_by-cons, sum_by_push, sum_by-append, sum_by-take-drop, sum_by-set}
+use Rattle.std.proofs.lemmas.Option.{get_or_from_slice_get, slice_get_within}
+use Rattle.queue_rows.specs.Rows.{find_message, set_some, changed_some, changed_nth, changed_at, changed_first, removed_at, slot_index, with_slot}
+use Rattle.queue_rows.specs.Tables.{after_change, slot_zero, moved_to, move_some, in_state, retried}
+use Rattle.queue_rows.specs.declared.tables.Tables.{Tables}
+use Rattle.queue_rows.specs.declared.rows.MsgRow.{MsgRow}
+use Rattle.queue_rows.specs.declared.rows.SlotRow.{SlotRow}
+use Rattle.queue_rows.specs.declared.rows.SlotState.TheVariants as states
+use Rattle.queue_rows.specs.declared.change.Change.{Change}
+use Rattle.queue_rows.specs.declared.change.Change.TheVariants as changes
+use Rattle.message_store.specs.Prepared.{slots_of, slots_added}
+use Rattle.message_store.proofs.FindLemmas.{find-passes, find-at_position, found_has_id}
+
+abbrev pub one_if : Bool → ℕ
+one_if b = cond b 1 0
+
+abbrev or_none : Bool → ℕ → ℕ
+or_none b n = cond b n 0
+
+-- the slots of one message, where it has the number
+abbrev slots_if : ℕ → MsgRow → ℕ
+slots_if id m = cond (m.id == id) (length m.slots) 0
+
+module _ {X : Type 0} where
+  set_more : (f : X → ℕ) (g : X → X) (k : ℕ) (xs : List X) (i : ℕ) (o : Option X) → ((x : X) → o ≡ Some x → f (g x) ≤ f x + k) → slice_get xs i ≡ o
+      → sum_by f (set_some xs i (changed_some g o)) ≤ sum_by f xs + k
+  set_more f g k xs i None h e = omega arith
+  set_more f g k xs i (Some x) h e =
+      let below : i < length xs = slice_get_within xs i x e in
+      let there : f (get_or xs i x) ≡ f x = ap f (get_or_from_slice_get xs i x x e) in
+      omega (arith, sum_by-set f xs i (g x) x below, there, h x refl)
+
+  at_more : (p : X → Bool) (f : X → ℕ) (g : X → X) (k : ℕ) (xs : List X) (o : Option ℕ) → ((x : X) → p x ≡ true → f (g x) ≤ f x + k) → position p xs ≡ o
+      → sum_by f (changed_at g o xs) ≤ sum_by f xs + k
+  at_more p f g k xs None h e = omega arith
+  at_more p f g k xs (Some i) h e =
+      set_more f g k xs i (slice_get xs i) (λ x is. h x (find-passes p xs x (find-at_position p xs i e ∙ is))) refl
+
+  -- where the first element that passes is changed, a sum grows by no more than its term can
+  first_more : (p : X → Bool) (f : X → ℕ) (g : X → X) (k : ℕ) → ((x : X) → p x ≡ true → f (g x) ≤ f x + k) → (xs : List X) → sum_by f (changed_first p g xs) ≤ sum_by f xs + k
+  first_more p f g k h xs = at_more p f g k xs (position p xs) h refl
+
+  fewer : (f : X → ℕ) (i : ℕ) (xs : List X) → sum_by f (drop (suc i) xs) ≤ sum_by f (drop i xs)
+  fewer f zero [] = omega arith
+  fewer f (suc i) [] = omega arith
+  fewer f zero (x ∷ xs) = omega (arith, sum_by-cons f x xs)
+  fewer f (suc i) (x ∷ xs) = fewer f i xs
+
+  without_one : (f : X → ℕ) (xs : List X) (o : Option ℕ) → sum_by f (removed_at xs o) ≤ sum_by f xs
+  without_one f xs None = omega arith
+  without_one f xs (Some i) = omega (arith, sum_by-append f (take i xs) (drop (suc i) xs), sum_by-take-drop f xs i, fewer f i xs)
+
+  length_set_some : (xs : List X) (i : ℕ) (o : Option X) → length (set_some xs i o) ≡ length xs
+  length_set_some xs i None = refl
+  length_set_some xs i (Some x) = length-set xs i x
+
+  filtered : (p : X → Bool) (f : X → ℕ) (xs : List X) → sum_by f (filter p xs) ≤ sum_by f xs
+  filtered p f xs = omega (arith, sum_by-filter_both p (λ x. not (p x)) (λ x. refl) f xs)
+
+cond_more : (b : Bool) (x y k : ℕ) → x ≤ y + k → cond b x 0 ≤ cond b y 0 + k
+cond_more true x y k h = h
+cond_more false x y k h = omega arith
+
+one_more : (b : Bool) (x : ℕ) → or_none b (x + 1) ≤ or_none b x + one_if b
+one_more true x = omega arith
+one_more false x = omega arith
+
+-- a slot is changed, and none is added
+same_slots : (id slot : ℕ) (g : SlotRow → SlotRow) (m : MsgRow) → slots_if id (with_slot slot g m) ≤ slots_if id m + 0
+same_slots id slot g m =
+    let same : length (changed_nth g (slot_index m slot) m.slots) ≡ length m.slots = length_set_some m.slots (slot_index m slot) (changed_some g (slice_get m.slots (slot_index m slot))) in
+    cond_more (m.id == id) _ (length m.slots) 0 (omega (arith, same))
+
+slot_changed : (id changed slot : ℕ) (g : SlotRow → SlotRow) (ms : List MsgRow) → slots_of id (changed_first (λ m. m.id == changed) (with_slot slot g) ms) ≤ slots_of id ms + 0
+slot_changed id changed slot g ms = first_more (λ m. m.id == changed) (slots_if id) (with_slot slot g) 0 (λ m is. same_slots id slot g m) ms
+
+-- slot 0 is added
+moved_slots : (id at : ℕ) (queue : List ℕ) (m : MsgRow) → slots_if id (moved_to queue at m) ≤ slots_if id m + one_if (m.id == id)
+moved_slots id at queue m = omega (arith, one_more (m.id == id) (length m.slots), ap (or_none (m.id == id)) (length-append m.slots (slot_zero m.slots at ∷ [])))
+
+moved_more : (t : Tables) (id moved at : ℕ) (queue : List ℕ) (o : Option MsgRow) → find_message t moved ≡ o
+    → slots_of id (move_some t o queue at).messages ≤ slots_of id t.messages + one_if (moved == id)
+moved_more t id moved at queue None e = omega arith
+moved_more t id moved at queue (Some m) e =
+    let has_it : m.id ≡ moved = found_has_id t.messages moved m e in
+    first_more (λ r. r.id == m.id) (slots_if id) (moved_to queue at) (one_if (moved == id))
+    (λ r is. let same : r.id ≡ moved = eqb-true r.id m.id is ∙ has_it in
+    omega (arith, moved_slots id at queue r, ap (λ (n : ℕ). one_if (n == id)) same)) t.messages
+
+-- no change adds more slots than it says
+pub slots_after : (id : ℕ) (t : Tables) (c : Change) → slots_of id (after_change t c).messages ≤ slots_of id t.messages + slots_added id c
+slots_after id t (changes.DropQueue name) = omega (arith, filtered (λ m. not (bytes_eq m.queue name)) (slots_if id) t.messages)
+slots_after id t (changes.Enqueued row) = omega (arith, sum_by_push (slots_if id) t.messages row)
+slots_after id t (changes.Retried k slot retries until at) = slot_changed id k slot (retried retries until at) t.messages
+slots_after id t (changes.Ready k slot at) = slot_changed id k slot (in_state states.Ready at) t.messages
+slots_after id t (changes.Done k slot at) = slot_changed id k slot (in_state states.Processed at) t.messages
+slots_after id t (changes.Expired k slot at) = slot_changed id k slot (in_state states.Expired at) t.messages
+slots_after id t (changes.Dropped k slot at) = slot_changed id k slot (in_state states.Dropped at) t.messages
+slots_after id t (changes.Moved k queue at) = moved_more t id k at queue (find_message t k) refl
+slots_after id t (changes.Purged k) = omega (arith, without_one (slots_if id) t.messages (position (λ m. m.id == k) t.messages))
+slots_after id t _ = omega arith
+
+-- a message that is found has no more slots than those of its number together
+pub found_slots : (id : ℕ) (ms : List MsgRow) (m : MsgRow) → find (λ r. r.id == id) ms ≡ Some m → length m.slots ≤ slots_of id ms
+found_slots id [] m e = cc
+found_slots id (x ∷ xs) m e = by (x.id == id) refl e (found_slots id xs m)
+  where
+    by : (b : Bool) → (x.id == id) ≡ b → cond b (Some x) (find (λ r. r.id == id) xs) ≡ Some m
+        → (find (λ r. r.id == id) xs ≡ Some m → length m.slots ≤ slots_of id xs) → length m.slots ≤ slots_of id (x ∷ xs)
+    by true is found more =
+        let same : x ≡ m = cc in
+        omega (arith, sum_by-cons (slots_if id) x xs, ap (λ b. or_none b (length x.slots)) is, ap (λ (r : MsgRow). length r.slots) same)
+    by false is found more = omega (arith, sum_by-cons (slots_if id) x xs, more found)

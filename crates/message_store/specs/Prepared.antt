@@ -1,0 +1,52 @@
+-- Changes for which all memory was taken.
+use Rattle.std.specs.Prelude.{◌≡◌, ℕ, ◌+◌, ◌<◌, ◌≤◌, ◌==◌, List, [], ◌∷◌, length, map, sum_by, IfSome, if◌then◌else◌}
+use Rattle.queue_rows.specs.Rows.{find_message}
+use Rattle.queue_rows.specs.Tables.{after_change}
+use Rattle.queue_rows.specs.declared.tables.Tables.{Tables}
+use Rattle.queue_rows.specs.declared.rows.MsgRow.{MsgRow}
+use Rattle.queue_rows.specs.declared.rows.SlotRow.{SlotRow}
+use Rattle.queue_rows.specs.declared.change.Change.{Change}
+use Rattle.queue_rows.specs.declared.change.Change.TheVariants as changes
+use Rattle.message_store.specs.Numbers.{HasNumbers}
+use Rattle.message_store.specs.Rows.{Rows}
+use Rattle.message_store.specs.Room.{Room, HasPlace, room_after}
+use Rattle.message_store.specs.declared.prepared.Prepared.{Prepared}
+
+-- how many slots the messages of a number have
+abbrev pub slots_of : ℕ → List MsgRow → ℕ
+slots_of id messages = sum_by (λ m. if m.id == id then length m.slots else 0) messages
+
+-- how many slots a change may add to the messages of a number
+abbrev pub slots_added : ℕ → Change → ℕ
+slots_added id (changes.Enqueued row) = if row.id == id then length row.slots else 0
+slots_added id (changes.Moved moved queue at) = if moved == id then 1 else 0
+slots_added id _ = 0
+
+-- how many slots a message of a number can have after some of these changes
+abbrev pub most_slots : ℕ → List MsgRow → List Change → ℕ
+most_slots id messages cs = slots_of id messages + sum_by (slots_added id) cs
+
+-- there is memory for the slots of a message that is moved, and for slot 0 behind them
+abbrev pub HasSlotRoom : List MsgRow → List Change → Change → Rows SlotRow → Type 0
+HasSlotRoom messages cs (changes.Moved id queue at) slots = (slots.items ≡ []) × (most_slots id messages cs ≤ slots.room)
+HasSlotRoom messages cs _ slots = Unit {0}
+
+-- there is memory for the slots of the message that this change moves
+abbrev pub HasItsSlotRoom : Tables → Change → Rows SlotRow → Type 0
+HasItsSlotRoom t (changes.Moved id queue at) slots = (slots.items ≡ []) × IfSome (find_message t id) (λ m. length m.slots < slots.room)
+HasItsSlotRoom t _ slots = Unit {0}
+
+-- the change can be made in these tables without memory
+pub record IsReady (t : Tables) (r : Room) (p : Prepared) : Type 0 where
+  pub numbers : HasNumbers p.change
+  pub place : HasPlace r p.change
+  pub slots : HasItsSlotRoom t p.change p.slots
+
+-- each of the changes can, once those before it are made
+abbrev pub AreReady : Tables → Room → List Prepared → Type 0
+AreReady t r [] = Unit {0}
+AreReady t r (p ∷ ps) = IsReady t r p × AreReady (after_change t p.change) (room_after r p.change) ps
+
+-- the changes themselves
+abbrev pub changes_of : List Prepared → List Change
+changes_of ps = map (λ p. p.change) ps

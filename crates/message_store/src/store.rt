@@ -1,0 +1,74 @@
+// The tables of a database.
+ghost use Rattle.std.specs.Prelude.{◌≡◌, All, OnOk, OnErr, option_copied};
+ghost use Rattle.queue_rows.specs.Rows.{find_message};
+ghost use Rattle.queue_rows.specs.Tables.{empty_tables};
+ghost use Rattle.queue_rows.specs.World.{committed_tables};
+ghost use Rattle.message_store.specs.Numbers.{HasNumbers};
+
+use crate::apply::commit;
+use crate::open::OpenTables;
+use payload_records::List;
+use queue_rows::{Change, MsgRow, Tables};
+use std::alloc::{AllocError, Global};
+use std::marker::Model;
+use std::mem;
+
+/// The tables of a database. Contracts see the tables of the definitions.
+#[derive(Drop)]
+pub struct Store {
+    tables: Tables,
+}
+
+impl Model for Store {
+    ghost use Rattle.std.specs.Coded.{codes};
+    ghost use Rattle.rule_conditions.specs.contracts.condition.Cond as cond;
+    ghost use Rattle.queue_rows.specs.declared.tables.Tables.{Tables};
+
+    ghost Value = { Tables };
+
+    ghost coded = { Prim.hlevel (codes, cond.the_row.coded) };
+
+    ghost view = { λ s. s.tables };
+}
+
+impl Store {
+    /// Tables in which nothing was committed yet. It takes no memory.
+    pub fn new(alloc: Global) -> Store
+        ensures { result ≡ empty_tables }
+    {
+        Store {
+            tables: Tables::new(alloc),
+        }
+    }
+
+    /// The tables. It takes no memory.
+    pub fn tables(&self) -> &Tables
+        ensures { result.now ≡ self.now }
+    {
+        &self.tables
+    }
+
+    /// The message of that number. It takes no memory.
+    pub fn message(&self, id: u64) -> Option<&MsgRow>
+        ensures { option_copied result ≡ find_message self.now id }
+    {
+        self.tables.messages.iter().find(|m| m.id == id)
+    }
+
+    /// Makes the changes of a commit at that moment, in order; an empty list is no commit. All memory is taken before anything
+    /// is changed: at want of memory the tables are as before.
+    pub fn commit(&mut self, changes: &List<Change>, moment: u64) -> Result<(), AllocError>
+        requires numbers { All HasNumbers changes.now }
+        ensures ok { OnOk result (self.new ≡ committed_tables self.old changes.now moment) }
+        ensures err { OnErr result (self.new ≡ self.old) }
+    {
+        if changes.is_empty() {
+            return Ok(());
+        }
+        let tables = mem::replace(&mut self.tables, Tables::new(changes.allocator()));
+        let mut open = OpenTables::of(tables);
+        let outcome = commit(&mut open, changes, moment);
+        self.tables = open.close();
+        outcome
+    }
+}
