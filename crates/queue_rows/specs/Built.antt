@@ -1,19 +1,18 @@
 -- The statements, and what of their members, that have a meaning so far. A script with any other statement is refused
 -- at that line, so none of them is ever called.
-use Rattle.std.specs.Prelude.{◌≡◌, ℕ, false, Option, None}
+use Rattle.std.specs.Prelude.{◌≡◌, ◌≤◌, ℕ, length, false, Option, None, All}
+use Rattle.aq_base.specs.declared.limits.TheConstants.{TIME_LIMIT, STATEMENT_LIMIT}
+use Rattle.queue_rows.specs.Dequeueing.{is_by_transaction}
 use Rattle.queue_rows.specs.declared.statement.Statement.{Statement}
 use Rattle.queue_rows.specs.declared.statement.Statement.TheVariants as statements
 use Rattle.queue_rows.specs.declared.statement.Admin.{Admin}
 use Rattle.queue_rows.specs.declared.statement.Admin.TheVariants as asks
 use Rattle.queue_rows.specs.declared.statement.Enqueue.{Enqueue}
 use Rattle.queue_rows.specs.declared.statement.Dequeue.{Dequeue}
-use Rattle.queue_rows.specs.declared.statement.Visibility.TheVariants.{Immediate}
-use Rattle.queue_rows.specs.declared.statement.Mode.TheVariants.{Remove}
-use Rattle.queue_rows.specs.declared.statement.Navigation.TheVariants.{Next}
+use Rattle.queue_rows.specs.declared.history.SessionScript.{SessionScript}
 
--- a message goes in at once, for one consumer, with neither a delay nor an end, and at its place
+-- a message goes in for one consumer, with neither a delay nor an end, and at its place
 pub record IsPlainEnqueue (ask : Enqueue) : Type 0 where
-  pub visibility : ask.visibility ≡ Immediate
   pub delay : ask.delay ≡ 0
   pub expiration : ask.expiration ≡ None
   pub recipients : ask.recipients ≡ None
@@ -21,12 +20,10 @@ pub record IsPlainEnqueue (ask : Enqueue) : Type 0 where
   pub before : ask.before ≡ None
   pub top : ask.top ≡ false
 
--- a message is taken out at once, by the one consumer, without waiting, whichever comes next
+-- a message is given to the one consumer, without waiting, whichever comes next or first
 pub record IsPlainDequeue (ask : Dequeue) : Type 0 where
   pub consumer : ask.consumer ≡ None
-  pub mode : ask.mode ≡ Remove
-  pub navigation : ask.navigation ≡ Next
-  pub visibility : ask.visibility ≡ Immediate
+  pub navigation : is_by_transaction ask.navigation ≡ false
   pub wait : ask.wait ≡ 0
   pub msgid : ask.msgid ≡ None
   pub corr : ask.corr ≡ None
@@ -35,7 +32,7 @@ pub record IsPlainDequeue (ask : Dequeue) : Type 0 where
 abbrev pub IsBuiltAdmin : Admin → Type 0
 IsBuiltAdmin (asks.CreateTable table fields sort multi grouped) = (multi ≡ false) × (grouped ≡ false)
 IsBuiltAdmin (asks.DropTable table) = ⊥
-IsBuiltAdmin (asks.CreateQueue queue table kind max_retries retry_delay retention) = Unit {0}
+IsBuiltAdmin (asks.CreateQueue queue table kind max_retries retry_delay retention) = retry_delay ≤ TIME_LIMIT
 IsBuiltAdmin (asks.DropQueue queue) = ⊥
 IsBuiltAdmin (asks.StartQueue queue enqueue dequeue) = Unit {0}
 IsBuiltAdmin (asks.StopQueue queue enqueue dequeue) = ⊥
@@ -51,5 +48,14 @@ IsBuilt (statements.Admin ask) = IsBuiltAdmin ask
 IsBuilt (statements.Enqueue ask) = IsPlainEnqueue ask
 IsBuilt (statements.Dequeue ask) = IsPlainDequeue ask
 IsBuilt (statements.Listen ask) = ⊥
-IsBuilt statements.Commit = ⊥
-IsBuilt statements.Rollback = ⊥
+IsBuilt statements.Commit = Unit {0}
+IsBuilt statements.Rollback = Unit {0}
+
+-- ---- scripts
+
+abbrev pub IsBuiltScript : SessionScript → Type 0
+IsBuiltScript script = All IsBuilt script.statements
+
+-- no session asks more than a script may
+abbrev pub IsShortScript : SessionScript → Type 0
+IsShortScript script = length script.statements ≤ STATEMENT_LIMIT

@@ -1,0 +1,4 @@
+pub mod Choosing
+pub mod Dequeued
+pub mod Holding
+pub mod Lawful

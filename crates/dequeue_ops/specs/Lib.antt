@@ -1,0 +1,4 @@
+pub mod Available
+pub mod Chosen
+pub mod Committing
+pub mod Effects

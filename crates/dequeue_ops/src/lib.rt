@@ -1,0 +1,12 @@
+//! What dequeues are answered.
+#![tactic(auto)]
+
+mod availability;
+mod choose;
+mod effect;
+mod reply;
+
+pub use effect::dequeue;
+
+#[cfg(test)]
+mod tests;

@@ -1,0 +1,200 @@
+// What an enqueue is answered.
+ghost use Rattle.std.specs.Prelude.{◌≡◌, ◌<◌, ◌≤◌, ◌+◌, ◌^◌, ℕ, List as Sequence, [], Option as Choice, None, Ok, All, IfOk, IfSome};
+ghost use Rattle.payload_records.specs.Record.{record_of};
+ghost use Rattle.queue_rows.specs.Built.{IsPlainEnqueue};
+ghost use Rattle.queue_rows.specs.Enqueueing.{enqueue, add, enqueue_cells};
+ghost use Rattle.queue_rows.specs.Meaning.{refused};
+ghost use Rattle.queue_rows.specs.Session.{Session};
+ghost use Rattle.queue_rows.specs.Turns.{ids_taken};
+ghost use Rattle.sessions.specs.Effects.{meant, IsAnswered, ids_of};
+ghost use Rattle.sessions.specs.declared.state.Verdict.TheVariants.{Answer};
+ghost use Rattle.sessions.specs.declared.state.PositionMove.TheVariants.{Keep};
+ghost use Rattle.sessions.specs.States.{IsStateOf};
+ghost use Rattle.sessions.specs.Within.{IsPlainTable, IsQueueWithin, IsWithin, IsNewAddition, AddsNew};
+
+use crate::addition::{Stamp, addition};
+use aq_base::{DbId, NEXT_LIMIT};
+use exception_queues::{find_queue, find_table, is_exception};
+use message_store::Store;
+use payload_records::{List, PayloadFault, Record};
+use queue_rows::{
+    Change, Enqueue, LimitName, MsgId, MsgRow, Pending, Reply, TableRow, Tables, Visibility,
+};
+use sessions::{Effect, PositionMove, SessionState, Verdict, changes_of};
+use std::alloc::{AllocError, Global};
+
+/// A reply with nothing but what is committed and what is kept until the session commits.
+fn effect(reply: Reply, commit: List<Change>, pend: Option<Pending>) -> Effect
+    ensures { result ≡ record { verdict = Answer reply; commit = commit; pend = pend; mark = None; unmark = None; position = Keep } }
+{
+    Effect {
+        verdict: Verdict::Answer(reply),
+        commit,
+        pend,
+        mark: None,
+        unmark: None,
+        position: PositionMove::Keep,
+    }
+}
+
+fn refused(alloc: Global, reply: Reply) -> Effect
+    requires { ids_taken reply ≡ 0 }
+    ensures means { (s : Session) (queue : Sequence ℕ) (consumer : Choice (Sequence ℕ)) (moment : ℕ) → refused s reply ≡ meant result queue consumer moment s }
+    ensures answered { IsAnswered result.verdict }
+    ensures ids { ids_of result.verdict ≡ 0 }
+    ensures commit { result.commit ≡ [] }
+    ensures within { (n g r : ℕ) → All (IsWithin n g r) result.commit }
+    ensures pend { result.pend ≡ None }
+    ensures mark { result.mark ≡ None }
+{
+    effect(reply, List::new(alloc), None)
+}
+
+/// The message is added as a transaction of its own, or kept with the session until it commits.
+fn add(
+    alloc: Global,
+    tables: &Tables,
+    at: DbId,
+    visibility: Visibility,
+    message: MsgRow,
+    moment: u64,
+) -> Result<Effect, AllocError>
+    requires new { IsNewAddition message.id message }
+    requires id { message.id < 2 ^ 61 }
+    requires queues { All IsQueueWithin tables.now.queues }
+    requires transaction { tables.now.transaction ≤ message.id }
+    requires moment { moment ≤ 2 ^ 62 }
+    ensures means { IfOk result (λ e. (s : Session) → s.at ≡ at → (queue : Sequence ℕ) (consumer : Choice (Sequence ℕ)) → add visibility tables.now s message moment ≡ meant e queue consumer moment s) }
+    ensures answered { IfOk result (λ e. IsAnswered e.verdict) }
+    ensures one { IfOk result (λ e. ids_of e.verdict ≡ 1) }
+    ensures within { IfOk result (λ e. (r : ℕ) → All (IsWithin (message.id + 1) (tables.now.transaction + 1) r) e.commit) }
+    ensures adds { IfOk result (λ e. IfSome e.pend (AddsNew message.id)) }
+    ensures later { IfOk result (λ e. IfSome e.pend (λ p. e.commit ≡ [])) }
+    ensures unmarked { IfOk result (λ e. e.mark ≡ None) }
+{
+    let reply = Reply::Enqueued(MsgId {
+        db: at,
+        number: message.id,
+    });
+    match visibility {
+        Visibility::OnCommit => Ok(effect(reply, List::new(alloc), Some(Pending::Add(message)))),
+        Visibility::Immediate => {
+            let mut pending = List::new(alloc);
+            pending.push(Pending::Add(message))?;
+            Ok(effect(reply, changes_of(tables, &pending, moment)?, None))
+        }
+    }
+}
+
+/// Where the record is read: the message is added, if an id is left for it.
+fn add_read(
+    alloc: Global,
+    tables: &Tables,
+    at: DbId,
+    table: &TableRow,
+    ask: &Enqueue,
+    cells: Record,
+    stamp: Stamp,
+) -> Result<Effect, AllocError>
+    requires plain { IsPlainEnqueue ask.now }
+    requires table { IsPlainTable table.now }
+    requires queues { All IsQueueWithin tables.now.queues }
+    requires transaction { tables.now.transaction ≤ stamp.id }
+    requires id { stamp.id ≤ 2 ^ 61 }
+    requires moment { stamp.moment ≤ 2 ^ 62 }
+    ensures means { IfOk result (λ e. (s : Session) → s.at ≡ at → (queue : Sequence ℕ) (consumer : Choice (Sequence ℕ))
+        → enqueue_cells tables.now s table.now ask.now (Ok cells) stamp.id stamp.moment ≡ meant e queue consumer stamp.moment s) }
+    ensures answered { IfOk result (λ e. IsAnswered e.verdict) }
+    ensures one { IfOk result (λ e. ids_of e.verdict ≤ 1) }
+    ensures limit { IfOk result (λ e. stamp.id + ids_of e.verdict ≤ 2 ^ 61) }
+    ensures within { IfOk result (λ e. (r : ℕ) → All (IsWithin (stamp.id + ids_of e.verdict) (tables.now.transaction + ids_of e.verdict) r) e.commit) }
+    ensures adds { IfOk result (λ e. IfSome e.pend (AddsNew stamp.id)) }
+    ensures later { IfOk result (λ e. IfSome e.pend (λ p. (e.commit ≡ []) × (ids_of e.verdict ≡ 1))) }
+    ensures unmarked { IfOk result (λ e. e.mark ≡ None) }
+{
+    if stamp.id >= NEXT_LIMIT {
+        return Ok(refused(alloc, Reply::Limit(LimitName::Ids)));
+    }
+    let message = addition(alloc, table, ask, cells, stamp)?;
+    add(alloc, tables, at, ask.visibility, message, stamp.moment)
+}
+
+/// Reads the payload as a record of the table, and adds the message.
+fn read_and_add(
+    alloc: Global,
+    tables: &Tables,
+    at: DbId,
+    table: &TableRow,
+    ask: &Enqueue,
+    stamp: Stamp,
+) -> Result<Effect, AllocError>
+    requires plain { IsPlainEnqueue ask.now }
+    requires table { IsPlainTable table.now }
+    requires queues { All IsQueueWithin tables.now.queues }
+    requires transaction { tables.now.transaction ≤ stamp.id }
+    requires id { stamp.id ≤ 2 ^ 61 }
+    requires moment { stamp.moment ≤ 2 ^ 62 }
+    ensures means { IfOk result (λ e. (s : Session) → s.at ≡ at → (queue : Sequence ℕ) (consumer : Choice (Sequence ℕ))
+        → enqueue_cells tables.now s table.now ask.now (record_of table.now.fields ask.now.payload) stamp.id stamp.moment ≡ meant e queue consumer stamp.moment s) }
+    ensures answered { IfOk result (λ e. IsAnswered e.verdict) }
+    ensures one { IfOk result (λ e. ids_of e.verdict ≤ 1) }
+    ensures limit { IfOk result (λ e. stamp.id + ids_of e.verdict ≤ 2 ^ 61) }
+    ensures within { IfOk result (λ e. (r : ℕ) → All (IsWithin (stamp.id + ids_of e.verdict) (tables.now.transaction + ids_of e.verdict) r) e.commit) }
+    ensures adds { IfOk result (λ e. IfSome e.pend (AddsNew stamp.id)) }
+    ensures later { IfOk result (λ e. IfSome e.pend (λ p. (e.commit ≡ []) × (ids_of e.verdict ≡ 1))) }
+    ensures unmarked { IfOk result (λ e. e.mark ≡ None) }
+{
+    match Record::from_json(alloc, &table.fields, &ask.payload) {
+        Ok(cells) => add_read(alloc, tables, at, table, ask, cells, stamp),
+        Err(PayloadFault::Memory) => Err(AllocError),
+        Err(fault) => Ok(refused(alloc, Reply::Payload(fault))),
+    }
+}
+
+/// What an enqueue of a session does, where `next` is the id that its message would get.
+#[tactic(auto, unfolding(queue_rows::specs::Enqueueing::enqueue))]
+pub fn enqueue(
+    alloc: Global,
+    store: &Store,
+    session: &SessionState,
+    next: u64,
+    ask: &Enqueue,
+    moment: u64,
+) -> Result<Effect, AllocError>
+    requires plain { IsPlainEnqueue ask.now }
+    requires tables { All IsPlainTable store.now.tables }
+    requires queues { All IsQueueWithin store.now.queues }
+    requires transaction { store.now.transaction ≤ next }
+    requires next { next ≤ 2 ^ 61 }
+    requires moment { moment ≤ 2 ^ 62 }
+    ensures means { IfOk result (λ e. (s : Session) → IsStateOf session.now s → (queue : Sequence ℕ) (consumer : Choice (Sequence ℕ)) → enqueue store.now s ask.now next moment ≡ meant e queue consumer moment s) }
+    ensures answered { IfOk result (λ e. IsAnswered e.verdict) }
+    ensures one { IfOk result (λ e. ids_of e.verdict ≤ 1) }
+    ensures limit { IfOk result (λ e. next + ids_of e.verdict ≤ 2 ^ 61) }
+    ensures within { IfOk result (λ e. (r : ℕ) → All (IsWithin (next + ids_of e.verdict) (store.now.transaction + ids_of e.verdict) r) e.commit) }
+    ensures adds { IfOk result (λ e. IfSome e.pend (AddsNew next)) }
+    ensures later { IfOk result (λ e. IfSome e.pend (λ p. (e.commit ≡ []) × (ids_of e.verdict ≡ 1))) }
+    ensures unmarked { IfOk result (λ e. e.mark ≡ None) }
+{
+    let tables = store.tables();
+    let Some(queue) = find_queue(tables, &ask.queue) else {
+        return Ok(refused(alloc, Reply::NoQueue));
+    };
+    if is_exception(queue.kind) {
+        return Ok(refused(alloc, Reply::WrongKind));
+    }
+    if !queue.enqueue {
+        return Ok(refused(alloc, Reply::EnqueueOff));
+    }
+    let Some(table) = find_table(tables, &queue.table) else {
+        return Ok(refused(alloc, Reply::NoQueue));
+    };
+    read_and_add(
+        alloc,
+        tables,
+        session.at,
+        table,
+        ask,
+        Stamp { id: next, moment },
+    )
+}

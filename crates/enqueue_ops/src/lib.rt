@@ -1,0 +1,7 @@
+//! What enqueues are answered.
+#![tactic(auto)]
+
+mod addition;
+mod effect;
+
+pub use effect::enqueue;
