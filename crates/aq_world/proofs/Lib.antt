@@ -1,0 +1,12 @@
+pub mod Administering
+pub mod Calls
+pub mod Changing
+pub mod Deeding
+pub mod Going
+pub mod Later
+pub mod Pacing
+pub mod Showing
+pub mod Siding
+pub mod Sounding
+pub mod Taking
+pub mod Turns

@@ -1,0 +1,13 @@
+use Rattle.std.proofs.Common.{[], refl, ap, ◌∙◌}
+use Rattle.queue_rows.specs.Session.{Session}
+use Rattle.aq_world.specs.Seated.{changed_at}
+use Rattle.aq_world.proofs.Showing.{seat_changes, changed_twice}
+use Rattle.aq_world.proofs.seats.Seats.settle.Goals as goal
+
+pub returns : goal.returns
+returns c =
+    let f = λ (s : Session). record s { marks = [] } in
+    let g = λ (s : Session). record s { pending = [] } in
+    seat_changes g c.self.inside.locks c.self.inside.seats c.settle.new.seats c.args.at c.release_all.new.self c.self.view_is (λ s. refl) c.settle.ensures
+    ∙ ap (changed_at c.args.at g) c.release_all.ensures
+    ∙ changed_twice f g c.args.self.now.sessions c.args.at

@@ -1,0 +1,9 @@
+pub mod Administering
+pub mod Booked
+pub mod Calls
+pub mod Course
+pub mod Deeds
+pub mod Locks
+pub mod Seated
+pub mod Sound
+pub mod Turning
