@@ -1,12 +1,6 @@
-pub mod Bounds
-pub mod Adding
-pub mod Removing
-pub mod Choosing
-pub mod Dequeued
-pub mod Keeping
-pub mod Pacing
 pub mod Going
 pub mod Turning
+pub mod Pacing
 pub mod Rounding
 pub mod Running
 pub mod Playing

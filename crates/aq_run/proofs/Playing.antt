@@ -1,16 +1,17 @@
 -- The run that the scripts of an input begin.
-use Rattle.std.proofs.Common.{◌≡◌, List, [], refl, sym, ap, subst, ◌∙◌, length, map, arith}
-use Rattle.std.proofs.lemmas.List.{length-map, append-nil}
-use Rattle.queue_rows.specs.World.{World, opened, fresh, uncounted}
+use Rattle.std.proofs.Common.{◌≡◌, List, [], All, refl, sym, ap, subst, ◌∙◌, map, arith}
+use Rattle.std.proofs.lemmas.List.{append-nil}
+use Rattle.queue_rows.specs.World.{World, opened, uncounted}
 use Rattle.queue_rows.specs.Turns.{closing_turn}
 use Rattle.queue_rows.specs.Serial.{Begins, EndsIn, IsSerial, IsSerialFront, IsOnTheWay, in_closing, rounds}
 use Rattle.queue_rows.specs.Tables.{empty_tables}
+use Rattle.queue_rows.specs.Built.{IsShortScript}
 use Rattle.queue_rows.specs.declared.tables.Tables.{Tables}
 use Rattle.queue_rows.specs.declared.history.History.{History}
 use Rattle.queue_rows.specs.declared.history.SessionScript.{SessionScript}
-use Rattle.queue_rows.proofs.Rounds.{sessions-opened, session-opened, scripts-opened}
-use Rattle.aq_run.specs.Course.{AreAt, AreTold}
-use Rattle.aq_run.specs.Turn.{HasRun}
+use Rattle.queue_rows.proofs.Rounds.{session-opened, scripts-opened}
+use Rattle.aq_world.specs.Course.{AreAt, AreTold}
+use Rattle.aq_run.specs.Rounds.{HasRun}
 
 abbrev begun : List SessionScript → World
 begun scripts = opened empty_tables empty_tables scripts
@@ -30,9 +31,6 @@ told-opened : (home away : Tables) (scripts : List SessionScript) → AreTold (o
 told-opened home away scripts = λ i s from there.
     ap (λ x. x.untold) (session-opened home away scripts i s there).2
 
-count-opened : (home away : Tables) (scripts : List SessionScript) → length (opened home away scripts).sessions ≡ length scripts
-count-opened home away scripts = ap length (sessions-opened home away scripts) ∙ length-map scripts fresh
-
 pub readings-begun : (scripts : List SessionScript) (w : World) → w ≡ begun scripts → w.readings ≡ 0
 readings-begun scripts w e = ap (λ (x : World). x.readings) e ∙ readings-opened empty_tables empty_tables scripts
 
@@ -42,8 +40,8 @@ at-begun scripts w e = subst (AreAt 0) (sym e) (at-opened empty_tables empty_tab
 pub told-begun : (scripts : List SessionScript) (w : World) → w ≡ begun scripts → AreTold w
 told-begun scripts w e = subst AreTold (sym e) (told-opened empty_tables empty_tables scripts)
 
-pub count-begun : (scripts : List SessionScript) (w : World) → w ≡ begun scripts → length w.sessions ≡ length scripts
-count-begun scripts w e = ap (λ (x : World). length x.sessions) e ∙ count-opened empty_tables empty_tables scripts
+pub short-begun : (scripts : List SessionScript) (w : World) → w ≡ begun scripts → All IsShortScript scripts → All IsShortScript w.scripts
+short-begun scripts w e short = subst (All IsShortScript) (sym (ap (λ (x : World). x.scripts) e ∙ scripts-opened empty_tables empty_tables scripts)) short
 
 -- ---- the history of a run
 

@@ -1,15 +1,14 @@
 -- Rounds until no session goes on.
-use Rattle.std.proofs.Common.{◌≡◌, ◌≤◌, ◌+◌, ◌<◌, ℕ, zero, suc, List, [], ◌∷◌, All, Option, Some, length, fold, max, true, false, refl, sym, ap, subst, ◌∙◌, arith, add-one}
-use Rattle.std.specs.Prelude.{slice_get, slice_index_or}
+use Rattle.std.proofs.Common.{◌≡◌, ◌≤◌, ◌+◌, ℕ, suc, List, [], ◌∷◌, All, length, fold, max, false, refl, sym, ap, subst, ◌∙◌, arith, add-one}
 use Rattle.queue_rows.specs.World.{World}
-use Rattle.queue_rows.specs.Serial.{rounds, round, EndsIn, IsOnTheWay, in_rounds, in_closing}
-use Rattle.queue_rows.specs.Turns.{any_live, closing_turn}
+use Rattle.queue_rows.specs.Serial.{rounds, round, IsOnTheWay, in_rounds, in_closing}
+use Rattle.queue_rows.specs.Turns.{any_live}
 use Rattle.queue_rows.specs.Order.{IsFront}
 use Rattle.queue_rows.specs.declared.history.Entry.{Entry}
 use Rattle.queue_rows.specs.declared.history.SessionScript.{SessionScript}
 use Rattle.queue_rows.proofs.Fronts.{grows-closing}
-use Rattle.script_text.specs.Script.{IsShortScript}
-use Rattle.aq_run.specs.Course.{longest}
+use Rattle.queue_rows.specs.Built.{IsShortScript}
+use Rattle.aq_world.specs.Course.{longest}
 use Rattle.aq_run.proofs.Going.{front_of}
 
 pub rounds_none : (w : World) → w ≡ rounds 0 w

@@ -1,104 +1,203 @@
--- What the turn of a session makes of a world, by what the session is like.
-use Rattle.std.proofs.Common.{◌≡◌, ℕ, ◌+◌, ◌<◌, Bool, true, false, List, [], ◌∷◌, Option, Some, None, option_map, refl, sym, ap, subst, ◌∙◌}
-use Rattle.std.specs.Prelude.{slice_get, IfSome, is_some, if◌then◌else◌}
+-- What one turn makes of a world, and what is left of one that was broken off.
+use Rattle.std.proofs.Common.{◌≡◌, ◌≤◌, ◌+◌, ◌⊎◌, inl, inr, ℕ, Bool, true, false, List, [], Option, Some, None, refl, ap, ◌∙◌, arith}
+use Rattle.std.specs.Prelude.{slice_get, is_some, if◌then◌else◌}
+use Rattle.std.proofs.lemmas.Bool.{le-ltb}
 use Rattle.queue_rows.specs.Session.{Session, Untold}
 use Rattle.queue_rows.specs.Meaning.{Meaning, answers, parks, unbuilt}
 use Rattle.queue_rows.specs.Statements.{meaning, next_statement}
-use Rattle.queue_rows.specs.World.{World, stepped, entry_of, read_clock, with_session}
-use Rattle.queue_rows.specs.Turns.{called, ended, parked, turned_by, own_turn, turn_of, session_turn, told, telling_turn, read_next}
+use Rattle.queue_rows.specs.World.{World, stepped, read_clock, with_session}
+use Rattle.queue_rows.specs.Turns.{turned_by, own_turn, turn_of, turn_of_some, session_turn, telling_of, telling_of_some, telling_turn, flushed, is_durable, all_durable, read_next, any_live, background_turn, closing_turn}
 use Rattle.queue_rows.specs.Order.{IsFront}
-use Rattle.queue_rows.specs.declared.change.Change.{Change}
-use Rattle.queue_rows.specs.declared.reply.Reply.{Reply}
 use Rattle.queue_rows.specs.declared.statement.Statement.{Statement}
-use Rattle.queue_rows.specs.declared.history.Step.TheVariants.{Call, Park, End}
+use Rattle.queue_rows.specs.declared.history.Step.{Step}
+use Rattle.queue_rows.specs.declared.history.Step.TheVariants.{Park, Flush, End}
+use Rattle.queue_rows.specs.declared.change.Change.{Change}
 use Rattle.queue_rows.proofs.Adding.{adds-called}
-use Rattle.queue_rows.proofs.Fronts.{front_same}
-use Rattle.aq_run.specs.declared.answer.Answer.{Answer}
-use Rattle.aq_run.specs.Answer.{moved}
-use Rattle.aq_run.specs.Course.{TakesTurn, HearsReply}
-use Rattle.aq_run.specs.Turn.{AnswersNext, IsNextAnswer}
-use Rattle.aq_run.proofs.Going.{of_some}
-use Rattle.aq_run.proofs.Pacing.{takes_called, takes_ended, takes_told, hears_told}
+use Rattle.queue_rows.proofs.Fronts.{Grows, grows-session_turn, flushed-told, entries-read_next}
+use Rattle.aq_world.specs.Turning.{turned, is_owed, IsBrokenOff}
+use Rattle.aq_world.specs.declared.turn_end.TurnEnd.{TurnEnd}
+use Rattle.aq_world.specs.declared.turn_end.TurnEnd.TheVariants as ends
+use Rattle.aq_run.proofs.Going.{front_of}
 
--- ---- own turns only add entries
+-- ---- whose turn it is
 
-grows_stepped : (i : ℕ) (w : World) → IsFront w.entries (stepped i w [] [] End).entries
+-- the timer and the propagator are no sessions
+pub from_64 : (actor : ℕ) → (actor ≡ 64) ⊎ (actor ≡ 65) → 64 ≤ actor
+from_64 actor (inl e) = omega (arith, e)
+from_64 actor (inr e) = omega (arith, e)
+
+pub turned_background : (i : ℕ) (w new : World) → 64 ≤ i → new ≡ turned i w → new ≡ background_turn w
+turned_background i w new le e = e ∙ ap (λ b. if b then session_turn i w else background_turn w) (le-ltb i 64 le)
+
+-- ---- readings
+
+readings-read_next : (w : World) → (read_next w).readings ≡ w.readings + 1
+unfolding read_clock
+readings-read_next w = refl
+
+readings-stepped : (actor : ℕ) (w : World) (home away : List Change) (step : Step) → (stepped actor w home away step).readings ≡ w.readings
 unfolding stepped
-grows_stepped i w = (entry_of i w [] [] End ∷ [], refl)
+readings-stepped actor w home away step = refl
 
-grows_called : (i : ℕ) (s after : Session) (reply : Reply) (cs : List Change) (w : World) → IsFront w.entries (called i s reply cs after w).entries
-grows_called i s after reply cs w = let a = adds-called i s after reply cs w in (entry_of i w a.home a.away (Call (s.next + 1) reply) ∷ [], sym a.entries)
+readings_unless : (b : Bool) (w new : World) → new.readings ≡ w.readings → (if b then w else new).readings ≡ w.readings
+readings_unless true w new e = refl
+readings_unless false w new e = e
 
-grows_parked : (i : ℕ) (s : Session) (since : ℕ) (o : Option ℕ) (w : World) → IsFront w.entries (if is_some o then w else with_session i (record s { parked = Some since }) (stepped i w [] [] (Park (s.next + 1)))).entries
-unfolding stepped
-grows_parked i s since None w = (entry_of i w [] [] (Park (s.next + 1)) ∷ [], refl)
-grows_parked i s since (Some at) w = front_same refl
+readings-flushed : (actor : ℕ) (w : World) → (flushed actor w).readings ≡ w.readings
+unfolding flushed
+readings-flushed actor w = readings_unless (is_durable w) w (all_durable (stepped actor w [] [] Flush)) (readings-stepped actor w [] [] Flush)
 
-grows_turned : (i : ℕ) (s : Session) (m : Meaning) (w : World) → IsFront w.entries (turned_by i s m w).entries
-grows_turned i s (answers reply cs after) w = grows_called i s after reply cs w
-grows_turned i s (parks since) w = grows_parked i s since s.parked w
-grows_turned i s unbuilt w = front_same refl
+readings-turned : (i : ℕ) (s : Session) (m : Meaning) (w : World) → (turned_by i s m w).readings ≡ w.readings
+readings-turned i s (answers reply cs after) w = (adds-called i s after reply cs w).readings
+readings-turned i s (parks since) w = readings_unless (is_some s.parked) w (with_session i (record s { parked = Some since }) (stepped i w [] [] (Park (s.next + 1)))) (readings-stepped i w [] [] (Park (s.next + 1)))
+readings-turned i s unbuilt w = refl
 
-pub grows_own : (i : ℕ) (s : Session) (o : Option Statement) (w : World) → IsFront w.entries (own_turn i s o w).entries
-grows_own i s None w = grows_stepped i w
-grows_own i s (Some statement) w = grows_turned i s (meaning w i s statement) w
+readings-own : (i : ℕ) (s : Session) (o : Option Statement) (w : World) → (own_turn i s o w).readings ≡ w.readings
+readings-own i s None w = readings-stepped i w [] [] End
+readings-own i s (Some statement) w = readings-turned i s (meaning w i s statement) w
 
--- ---- what is to be told
+readings_if : (b : Bool) (w new : World) → new.readings ≤ w.readings + 1 → (if b then new else w).readings ≤ w.readings + 1
+readings_if true w new le = le
+readings_if false w new le = omega arith
 
-pub untold_of : (o : Option Untold) (n : ℕ) → option_map (λ u. u.number) o ≡ Some n → (u : Untold) × (o ≡ Some u) × (u.number ≡ n)
-untold_of None n e = absurd (let no : None ≡ Some n = e in cc)
-untold_of (Some u) n e = (u, refl, let h : Some u.number ≡ Some n = e in cc)
+readings-telling_of : (i : ℕ) (s : Session) (o : Option Untold) (w : World) → (telling_of i s o w).readings ≡ w.readings
+readings-telling_of i s None w = refl
+readings-telling_of i s (Some u) w = readings-stepped i (flushed i w) [] [] _ ∙ readings-flushed i w
 
-pub none_untold : (o : Option Untold) → option_map (λ u. u.number) o ≡ None → o ≡ None
-none_untold None e = refl
-none_untold (Some u) e = absurd (let no : Some u.number ≡ None = e in cc)
+readings-turn_of : (i : ℕ) (s : Session) (o : Option Untold) (w : World) → (turn_of i s o w).readings ≤ w.readings + 1
+readings-turn_of i s (Some u) w = let e = readings-telling_of i s (Some u) w in omega (arith, e)
+readings-turn_of i s None w =
+    let own = readings-own i s (next_statement w i s) (read_next w) in
+    let read = readings-read_next w in
+    readings_if s.live w (own_turn i s (next_statement w i s) (read_next w)) (omega (arith, own, read))
 
--- ---- turns by what the session is like
+readings-turn_of_some : (i : ℕ) (o : Option Session) (w : World) → (turn_of_some i o w).readings ≤ w.readings + 1
+readings-turn_of_some i None w = omega arith
+readings-turn_of_some i (Some s) w = readings-turn_of i s s.untold w
 
-pub session_told : (i n : ℕ) (s : Session) (w : World) → slice_get w.sessions i ≡ Some s → option_map (λ u. u.number) s.untold ≡ Some n → session_turn i w ≡ told i s n w
+pub readings-session_turn : (i : ℕ) (w : World) → (session_turn i w).readings ≤ w.readings + 1
 unfolding session_turn
-session_told i n s w there e = let u = untold_of s.untold n e in rw (there, u.1) (ap (λ m. told i s m w) u.2)
+readings-session_turn i w = readings-turn_of_some i (slice_get w.sessions i) w
 
-pub telling_told : (i n : ℕ) (s : Session) (w : World) → slice_get w.sessions i ≡ Some s → option_map (λ u. u.number) s.untold ≡ Some n → telling_turn i w ≡ told i s n w
+readings-telling_of_some : (i : ℕ) (o : Option Session) (w : World) → (telling_of_some i o w).readings ≡ w.readings
+readings-telling_of_some i None w = refl
+readings-telling_of_some i (Some s) w = readings-telling_of i s s.untold w
+
+pub readings-telling_turn : (i : ℕ) (w : World) → (telling_turn i w).readings ≡ w.readings
 unfolding telling_turn
-telling_told i n s w there e = let u = untold_of s.untold n e in rw (there, u.1) (ap (λ m. told i s m w) u.2)
+readings-telling_turn i w = readings-telling_of_some i (slice_get w.sessions i) w
 
-pub session_own : (i : ℕ) (s : Session) (w : World) → slice_get w.sessions i ≡ Some s → s.untold ≡ None → s.live ≡ true
-    → session_turn i w ≡ own_turn i s (next_statement (read_next w) i s) (read_next w)
-unfolding session_turn read_clock
-session_own i s w there untold live = rw (there, untold, live) refl
+readings-background_turn : (w : World) → (background_turn w).readings ≤ w.readings + 1
+unfolding background_turn
+readings-background_turn w = let read = readings-read_next w in readings_if (any_live w) w (read_next w) (omega (arith, read))
 
-pub told_takes : (i n : ℕ) (s : Session) (w new : World) → slice_get w.sessions i ≡ Some s → option_map (λ u. u.number) s.untold ≡ Some n
-    → IfSome (slice_get w.sessions i) (λ t. new ≡ told i t n w) → TakesTurn i w new
-told_takes i n s w new there e is =
-    let u = untold_of s.untold n e in
-    let same : new ≡ told i s u.0.number w = of_some _ (slice_get w.sessions i) s there is ∙ ap (λ m. told i s m w) (sym u.2) in
-    subst (TakesTurn i w) (sym same) (takes_told i s u.0 w there u.1)
+-- ---- a turn of the timer or of the propagator changes no session
 
-pub told_heard : (i n : ℕ) (s : Session) (w new : World) → slice_get w.sessions i ≡ Some s
-    → IfSome (slice_get w.sessions i) (λ t. new ≡ told i t n w) → HearsReply i w new
-told_heard i n s w new there is = subst (HearsReply i w) (sym (of_some _ (slice_get w.sessions i) s there is)) (hears_told i s n w there)
-
-pub called_takes : (i : ℕ) (s : Session) (o : Option Answer) (a : Answer) (w new : World) → slice_get w.sessions i ≡ Some s → o ≡ Some a → AnswersNext w i s o
-    → IfSome (slice_get w.sessions i) (λ t. new ≡ called i t a.reply a.commit (moved a.position t) w) → TakesTurn i w new
-called_takes i s o a w new there is next called_is =
-    let n : IsNextAnswer w i s a = subst (AnswersNext w i s) is next in
-    subst (TakesTurn i w) (sym (of_some _ (slice_get w.sessions i) s there called_is)) (takes_called i s (moved a.position s) a.reply a.commit w w there refl refl n.left)
-
-pub ended_takes : (i : ℕ) (s : Session) (w new : World) → slice_get w.sessions i ≡ Some s → IfSome (slice_get w.sessions i) (λ t. new ≡ ended i t w) → TakesTurn i w new
-ended_takes i s w new there is = subst (TakesTurn i w) (sym (of_some _ (slice_get w.sessions i) s there is)) (takes_ended i s w w there refl refl)
-
--- a reading of the clock changes no session
-from_read : (i : ℕ) (w new : World) → TakesTurn i (read_next w) new → TakesTurn i w new
+sessions_if : (b : Bool) (w : World) → (if b then read_next w else w).sessions ≡ w.sessions
 unfolding read_clock
-from_read i w new t = record { keeps = record { scripts = t.keeps.scripts; others = t.keeps.others; count = t.keeps.count }; own = t.own }
+sessions_if true w = refl
+sessions_if false w = refl
 
-pub read_takes : (i : ℕ) (w v new : World) → v ≡ read_next w → TakesTurn i v new → TakesTurn i w new
-read_takes i w v new e t = from_read i w new (subst (λ x. TakesTurn i x new) e t)
+sessions-background_turn : (w : World) → (background_turn w).sessions ≡ w.sessions
+unfolding background_turn
+sessions-background_turn w = sessions_if (any_live w) w
 
-read_same : (w : World) → (read_next w).sessions ≡ w.sessions
+scripts-read_next : (w : World) → (read_next w).scripts ≡ w.scripts
 unfolding read_clock
-read_same w = refl
+scripts-read_next w = refl
 
-pub read_sessions : (w v : World) → v ≡ read_next w → v.sessions ≡ w.sessions
-read_sessions w v e = ap (λ x. x.sessions) e ∙ read_same w
+scripts_if : (b : Bool) (w : World) → (if b then read_next w else w).scripts ≡ w.scripts
+scripts_if true w = scripts-read_next w
+scripts_if false w = refl
+
+scripts-background_turn : (w : World) → (background_turn w).scripts ≡ w.scripts
+unfolding background_turn
+scripts-background_turn w = scripts_if (any_live w) w
+
+pub kept_sessions : (w new : World) → new ≡ background_turn w → new.sessions ≡ w.sessions
+kept_sessions w new e = ap (λ x. x.sessions) e ∙ sessions-background_turn w
+
+pub kept_readings : (w new : World) → new ≡ background_turn w → new.readings ≤ w.readings + 1
+kept_readings w new e = let same = ap (λ (x : World). x.readings) e in let most = readings-background_turn w in omega (arith, same, most)
+
+pub kept_scripts : (w new : World) → new ≡ background_turn w → new.scripts ≡ w.scripts
+kept_scripts w new e = ap (λ x. x.scripts) e ∙ scripts-background_turn w
+
+-- ---- a telling turn is the turn of a session that is owed a reply
+
+telling_as : (i : ℕ) (s : Session) (o : Option Untold) (w : World) → is_some o ≡ true → telling_of i s o w ≡ turn_of i s o w
+telling_as i s None w e = absurd (let no : false ≡ true = e in cc)
+telling_as i s (Some u) w e = refl
+
+telling_as_some : (i : ℕ) (o : Option Session) (w : World) → is_owed o ≡ true → telling_of_some i o w ≡ turn_of_some i o w
+telling_as_some i None w e = absurd (let no : false ≡ true = e in cc)
+telling_as_some i (Some s) w e = telling_as i s s.untold w e
+
+pub telling_owed : (i : ℕ) (w : World) → is_owed (slice_get w.sessions i) ≡ true → telling_turn i w ≡ session_turn i w
+unfolding telling_turn session_turn
+telling_owed i w e = telling_as_some i (slice_get w.sessions i) w e
+
+telling_none : (i : ℕ) (s : Session) (o : Option Untold) (w : World) → is_some o ≡ false → telling_of i s o w ≡ w
+telling_none i s None w e = refl
+telling_none i s (Some u) w e = absurd (let no : true ≡ false = e in cc)
+
+telling_none_some : (i : ℕ) (o : Option Session) (w : World) → is_owed o ≡ false → telling_of_some i o w ≡ w
+telling_none_some i None w e = refl
+telling_none_some i (Some s) w e = telling_none i s s.untold w e
+
+pub telling_rests : (i : ℕ) (w : World) → is_owed (slice_get w.sessions i) ≡ false → telling_turn i w ≡ w
+unfolding telling_turn
+telling_rests i w e = telling_none_some i (slice_get w.sessions i) w e
+
+-- ---- turns that were broken off
+
+flush_first : (i : ℕ) (s : Session) (o : Option Untold) (w : World) → is_some o ≡ true → Grows (flushed i w) (turn_of i s o w)
+flush_first i s None w e = absurd (let no : false ≡ true = e in cc)
+flush_first i s (Some u) w e = flushed-told i s u.number w
+
+flush_first_some : (i : ℕ) (o : Option Session) (w : World) → is_owed o ≡ true → Grows (flushed i w) (turn_of_some i o w)
+flush_first_some i None w e = absurd (let no : false ≡ true = e in cc)
+flush_first_some i (Some s) w e = flush_first i s s.untold w e
+
+-- what is told stands behind the flush
+flush_before : (i : ℕ) (w : World) → is_owed (slice_get w.sessions i) ≡ true → Grows (flushed i w) (session_turn i w)
+unfolding session_turn
+flush_before i w e = flush_first_some i (slice_get w.sessions i) w e
+
+entries_of : {w v : World} → w ≡ v → w.entries ≡ v.entries
+entries_of e = ap (λ x. x.entries) e
+
+pub broken_session : (i : ℕ) (old new : World) → IsBrokenOff i old new → IsFront new.entries (session_turn i old).entries
+broken_session i old new (inl same) = front_of (entries_of same) (grows-session_turn i old)
+broken_session i old new (inr (inl read)) = front_of (entries_of read ∙ entries-read_next old) (grows-session_turn i old)
+broken_session i old new (inr (inr (flush, owed))) = front_of (entries_of flush) (flush_before i old owed)
+
+scripts_unless : (b : Bool) (w new : World) → new.scripts ≡ w.scripts → (if b then w else new).scripts ≡ w.scripts
+scripts_unless true w new e = refl
+scripts_unless false w new e = e
+
+scripts-stepped : (actor : ℕ) (w : World) → (stepped actor w [] [] Flush).scripts ≡ w.scripts
+unfolding stepped
+scripts-stepped actor w = refl
+
+scripts-flushed : (actor : ℕ) (w : World) → (flushed actor w).scripts ≡ w.scripts
+unfolding flushed
+scripts-flushed actor w = scripts_unless (is_durable w) w (all_durable (stepped actor w [] [] Flush)) (scripts-stepped actor w)
+
+pub broken_scripts : (i : ℕ) (old new : World) → IsBrokenOff i old new → new.scripts ≡ old.scripts
+broken_scripts i old new (inl same) = ap (λ x. x.scripts) same
+broken_scripts i old new (inr (inl read)) = ap (λ x. x.scripts) read ∙ scripts-read_next old
+broken_scripts i old new (inr (inr (flush, owed))) = ap (λ x. x.scripts) flush ∙ scripts-flushed i old
+
+-- ---- the closing turn
+
+scripts-closing_turn : (w : World) → (closing_turn w).scripts ≡ w.scripts
+unfolding closing_turn
+scripts-closing_turn w = scripts-flushed 66 (read_next w) ∙ scripts-read_next w
+
+pub broken_closing : (old new : World) → new ≡ read_next old → (new.entries ≡ old.entries) × (new.scripts ≡ old.scripts)
+broken_closing old new read = (entries_of read ∙ entries-read_next old, ap (λ x. x.scripts) read ∙ scripts-read_next old)
+
+pub scripts_closed : (old new : World) (end : TurnEnd) → (end ≡ ends.Done) ⊎ (end ≡ ends.Memory) → (end ≡ ends.Done → new ≡ closing_turn old) → (end ≡ ends.Memory → new ≡ read_next old) → new.scripts ≡ old.scripts
+scripts_closed old new end (inl done) whole memory = ap (λ x. x.scripts) (whole done) ∙ scripts-closing_turn old
+scripts_closed old new end (inr broken) whole memory = (broken_closing old new (memory broken)).1

@@ -1,9 +1,2 @@
 pub mod Serve
-pub mod Adding
-pub mod Answer
-pub mod Course
-pub mod Turn
-pub mod Catalog
-pub mod Plain
-pub mod Apply
-pub mod Within
+pub mod Rounds

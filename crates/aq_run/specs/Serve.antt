@@ -8,7 +8,6 @@ use Rattle.queue_rows.specs.Tables.{empty_tables}
 use Rattle.queue_rows.specs.Serial.{IsSerial, IsSerialFront}
 use Rattle.queue_rows.specs.Legal.{IsLegalHistory}
 use Rattle.queue_rows.specs.Order.{CallsAll, CallsInOrder}
-use Rattle.queue_rows.specs.declared.history.Entry.{Entry}
 use Rattle.queue_rows.specs.declared.history.History.{History}
 use Rattle.queue_rows.specs.declared.history.SessionScript.{SessionScript}
 use Rattle.script_text.specs.Script.{script}
@@ -29,10 +28,6 @@ bad_line_text line = codes "bad line " ++ decimal line ++ codes "\n"
 -- the history of a run that did not begin
 abbrev pub empty_history : History
 empty_history = record { home = empty_tables; away = empty_tables; opening = 0; scripts = []; entries = [] }
-
--- no disk was called: there is none yet
-abbrev pub HasNoCalls : Entry → Type 0
-HasNoCalls e = (e.home_calls ≡ 0) × (e.away_calls ≡ 0)
 
 -- ---- what is written
 

@@ -2,10 +2,13 @@
 ghost use Rattle.std.specs.Prelude.{◌≡◌, true, false, All, IfOk};
 ghost use Rattle.queue_rows.specs.Tables.{empty_tables};
 ghost use Rattle.queue_rows.specs.Serial.{IsSerial, IsSerialFront};
-ghost use Rattle.aq_run.specs.Serve.{IsRunBy, IsFrontBy, HasNoCalls};
-ghost use Rattle.script_text.specs.Script.{AreWithinLimits, IsShortScript};
+ghost use Rattle.queue_rows.specs.Built.{IsShortScript};
+ghost use Rattle.script_text.specs.Script.{AreWithinLimits};
+ghost use Rattle.aq_world.specs.Calls.{HasNoCalls};
+ghost use Rattle.aq_run.specs.Serve.{IsRunBy, IsFrontBy};
 
-use crate::world::World;
+use crate::rounds::run;
+use aq_world::World;
 use payload_records::List;
 use queue_rows::{
     History, SessionScript, legal_calls_in_order, serial_calls_all, serial_front_is_legal,
@@ -36,8 +39,8 @@ pub fn play(alloc: Global, scripts: List<SessionScript>) -> Result<Played, Alloc
     serial_calls_all();
     serial_front_is_legal();
     legal_calls_in_order();
-    let mut world = World::new(alloc, scripts)?;
-    match world.run() {
+    let mut world = World::mount(alloc, scripts)?;
+    match run(&mut world) {
         Ok(()) => Ok(Played {
             history: world.finish(),
             is_whole: true,

@@ -3,8 +3,10 @@ ghost use Rattle.std.specs.Prelude.{◌≡◌, ◌≢◌, ◌↔◌, ◌⊎◌, 
 ghost use Rattle.std.specs.Io.KnownBytes.{Appends};
 ghost use Rattle.aq_base.specs.Causes.{Rose};
 ghost use Rattle.transcript.specs.Print.{print};
-ghost use Rattle.script_text.specs.Script.{script, AreWithinLimits, IsShortScript};
-ghost use Rattle.aq_run.specs.Serve.{is_serial_run, usage_text, bad_line_text, empty_history, HasNoCalls, WritesFront, Tells, IsRunBy, IsFrontBy, IsRunOf, AnswersFront, AnswersBad, IsRun, IsStatus};
+ghost use Rattle.queue_rows.specs.Built.{IsShortScript};
+ghost use Rattle.script_text.specs.Script.{script, AreWithinLimits};
+ghost use Rattle.aq_world.specs.Calls.{HasNoCalls};
+ghost use Rattle.aq_run.specs.Serve.{is_serial_run, usage_text, bad_line_text, empty_history, WritesFront, Tells, IsRunBy, IsFrontBy, IsRunOf, AnswersFront, AnswersBad, IsRun, IsStatus};
 
 use crate::play::{Played, play};
 use aq_base::{INPUT_LIMIT, ReadFault, Sink, Source, Words, read_up_to, write_all};

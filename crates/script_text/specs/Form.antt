@@ -1,5 +1,5 @@
 -- What a line is about, and which members it may have.
-use Rattle.std.specs.Prelude.{ℕ, ◌||◌, ◌&&◌, List, codes, Bool, true, Option, Some, None, is_some, option_and_then, if◌then◌else◌}
+use Rattle.std.specs.Prelude.{ℕ, ◌||◌, ◌&&◌, List, codes, Bool, true, false, Option, Some, None, is_some, option_and_then, if◌then◌else◌}
 use Rattle.std.specs.Str.{bytes_eq}
 use Rattle.serde_json.specs.Data.{Data, Members, no_members, member}
 use Rattle.serde_json.specs.Find.{as_object}
@@ -14,15 +14,19 @@ verb_of word = if bytes_eq word (codes "create-table") then Some verbs.CreateTab
     else (if bytes_eq word (codes "create-queue") then Some verbs.CreateQueue
     else (if bytes_eq word (codes "start-queue") then Some verbs.StartQueue
     else (if bytes_eq word (codes "enqueue") then Some verbs.Enqueue
-    else (if bytes_eq word (codes "dequeue") then Some verbs.Dequeue else None))))
+    else (if bytes_eq word (codes "dequeue") then Some verbs.Dequeue
+    else (if bytes_eq word (codes "commit") then Some verbs.Commit
+    else (if bytes_eq word (codes "rollback") then Some verbs.Rollback else None))))))
 
 -- the members that say what a statement does, and to what
 abbrev pub is_key_of_verb : Verb → List ℕ → Bool
 is_key_of_verb verbs.CreateTable key = bytes_eq key (codes "table") || bytes_eq key (codes "fields")
-is_key_of_verb verbs.CreateQueue key = bytes_eq key (codes "queue") || bytes_eq key (codes "table")
+is_key_of_verb verbs.CreateQueue key = bytes_eq key (codes "queue") || bytes_eq key (codes "table") || bytes_eq key (codes "max_retries")
 is_key_of_verb verbs.StartQueue key = bytes_eq key (codes "queue")
 is_key_of_verb verbs.Enqueue key = bytes_eq key (codes "queue") || bytes_eq key (codes "payload") || bytes_eq key (codes "visibility")
-is_key_of_verb verbs.Dequeue key = bytes_eq key (codes "queue") || bytes_eq key (codes "visibility")
+is_key_of_verb verbs.Dequeue key = bytes_eq key (codes "queue") || bytes_eq key (codes "mode") || bytes_eq key (codes "navigation") || bytes_eq key (codes "visibility")
+is_key_of_verb verbs.Commit key = false
+is_key_of_verb verbs.Rollback key = false
 
 -- the members that a line of that form may have
 abbrev pub is_key_of : Form → List ℕ → Bool

@@ -3,12 +3,11 @@ use Rattle.std.specs.Prelude.{◌≡◌, ◌≤◌, ℕ, ◌+◌, ◌||◌, ◌=
 use Rattle.std.specs.List.{slice_split, sum_by, count_by}
 use Rattle.std.specs.Str.{bytes_eq}
 use Rattle.aq_base.specs.declared.DbId.{DbId}
-use Rattle.aq_base.specs.declared.limits.TheConstants.{INPUT_LIMIT, STATEMENT_LIMIT}
-use Rattle.queue_rows.specs.Built.{IsBuilt}
+use Rattle.aq_base.specs.declared.limits.TheConstants.{INPUT_LIMIT, SESSION_LIMIT, STATEMENT_LIMIT}
+use Rattle.queue_rows.specs.Built.{IsBuiltScript}
 use Rattle.queue_rows.specs.Rows.{changed_nth}
 use Rattle.queue_rows.specs.declared.statement.Statement.{Statement}
 use Rattle.queue_rows.specs.declared.history.SessionScript.{SessionScript}
-use Rattle.script_text.specs.declared.TheConstants.{SESSIONS_BUILT}
 use Rattle.script_text.specs.declared.fault.ScriptFault.{ScriptFault}
 use Rattle.script_text.specs.declared.fault.ScriptFault.TheVariants as faults
 use Rattle.script_text.specs.declared.line.Line.{Line}
@@ -29,7 +28,7 @@ new_session name at = record { name = name; at = at; statements = [] }
 
 -- a session of another name goes last, where one more may be declared
 abbrev pub with_session : List ℕ → DbId → List SessionScript → Option (List SessionScript)
-with_session name at sessions = if nat_le SESSIONS_BUILT (length sessions) || is_some (position (is_of name) sessions) then None else Some (sessions ++ new_session name at ∷ [])
+with_session name at sessions = if nat_le SESSION_LIMIT (length sessions) || is_some (position (is_of name) sessions) then None else Some (sessions ++ new_session name at ∷ [])
 
 -- a session, with one more statement
 abbrev pub with_statement : Statement → SessionScript → SessionScript
@@ -90,17 +89,10 @@ NeedsOnlyTheFront bytes = script (take (INPUT_LIMIT + 1) bytes) ≡ script bytes
 
 -- ---- what each script keeps
 
-abbrev pub IsBuiltScript : SessionScript → Type 0
-IsBuiltScript s = All IsBuilt s.statements
-
 pub record AreWithinLimits (scripts : List SessionScript) : Type 0 where
-  pub sessions : length scripts ≤ SESSIONS_BUILT
+  pub sessions : length scripts ≤ SESSION_LIMIT
   pub statements : statement_count scripts ≤ STATEMENT_LIMIT
   pub built : All IsBuiltScript scripts
-
--- no session asks more than a script may
-abbrev pub IsShortScript : SessionScript → Type 0
-IsShortScript s = length s.statements ≤ STATEMENT_LIMIT
 
 -- ---- what is left of a text to be read
 

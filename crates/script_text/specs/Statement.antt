@@ -1,5 +1,5 @@
 -- The statement that a line asks.
-use Rattle.std.specs.Prelude.{ℕ, pos, List, [], ◌∷◌, codes, true, false, Option, None, option_map, option_and_then, if◌then◌else◌}
+use Rattle.std.specs.Prelude.{ℕ, pos, List, [], ◌∷◌, codes, true, false, Option, Some, None, option_map, option_and_then, if◌then◌else◌}
 use Rattle.serde_json.specs.Data.{Data}
 use Rattle.place_keys.specs.declared.sort_list.Column.TheVariants.{EnqTime}
 use Rattle.queue_rows.specs.declared.rows.QueueKind.TheVariants.{Normal}
@@ -8,23 +8,23 @@ use Rattle.queue_rows.specs.declared.statement.Statement.TheVariants as statemen
 use Rattle.queue_rows.specs.declared.statement.Admin.TheVariants as asks
 use Rattle.queue_rows.specs.declared.statement.Dequeue.{Dequeue}
 use Rattle.queue_rows.specs.declared.statement.Enqueue.{Enqueue}
-use Rattle.queue_rows.specs.declared.statement.Mode.TheVariants.{Remove}
-use Rattle.queue_rows.specs.declared.statement.Navigation.TheVariants.{Next}
+use Rattle.queue_rows.specs.declared.statement.Mode.{Mode}
+use Rattle.queue_rows.specs.declared.statement.Navigation.{Navigation}
 use Rattle.queue_rows.specs.declared.statement.Visibility.{Visibility}
 use Rattle.payload_records.specs.declared.payload.Payload.{Payload}
 use Rattle.script_text.specs.declared.form.Verb.{Verb}
 use Rattle.script_text.specs.declared.form.Verb.TheVariants as verbs
 use Rattle.script_text.specs.declared.form.Form.TheVariants.{Asking}
 use Rattle.script_text.specs.Form.{verb_of, has_form}
-use Rattle.script_text.specs.Member.{text_at, name_at, table_at, fields_at, payload_at, visibility_at}
+use Rattle.script_text.specs.Member.{text_at, name_at, table_at, fields_at, max_retries_at, payload_at, mode_at, navigation_at, visibility_at}
 
 -- sorted by the moment of the enqueue, for one consumer, and with no groups
 unfoldable pub create_table : Data → Option Statement
 create_table d = option_and_then (λ table. option_map (λ fields. statements.Admin (asks.CreateTable table fields (EnqTime ∷ []) false false)) (fields_at d)) (table_at d)
 
--- a normal queue with five retries, no delay before each and no retention
+-- a normal queue, with no delay before a retry and no retention
 unfoldable pub create_queue : Data → Option Statement
-create_queue d = option_and_then (λ queue. option_map (λ table. statements.Admin (asks.CreateQueue queue table Normal 5 0 0)) (table_at d)) (name_at (codes "queue") d)
+create_queue d = option_and_then (λ queue. option_and_then (λ table. option_map (λ max_retries. statements.Admin (asks.CreateQueue queue table Normal max_retries 0 0)) (max_retries_at d)) (table_at d)) (name_at (codes "queue") d)
 
 -- it gives messages, and takes them where it is a normal queue
 unfoldable pub start_queue : Data → Option Statement
@@ -49,12 +49,12 @@ plain_enqueue queue payload visibility = record {
 unfoldable pub enqueue : Data → Option Statement
 enqueue d = option_and_then (λ queue. option_and_then (λ visibility. option_map (λ payload. statements.Enqueue (plain_enqueue queue payload visibility)) (payload_at d)) (visibility_at d)) (name_at (codes "queue") d)
 
-abbrev pub plain_dequeue : List ℕ → Visibility → Dequeue
-plain_dequeue queue visibility = record {
+abbrev pub plain_dequeue : List ℕ → Mode → Navigation → Visibility → Dequeue
+plain_dequeue queue mode navigation visibility = record {
   queue = queue;
   consumer = None;
-  mode = Remove;
-  navigation = Next;
+  mode = mode;
+  navigation = navigation;
   visibility = visibility;
   wait = 0;
   msgid = None;
@@ -62,9 +62,9 @@ plain_dequeue queue visibility = record {
   condition = None;
 }
 
--- the next message is taken, without waiting
+-- for the one consumer, without waiting, and with neither an id nor a pattern nor a condition
 unfoldable pub dequeue : Data → Option Statement
-dequeue d = option_and_then (λ queue. option_map (λ visibility. statements.Dequeue (plain_dequeue queue visibility)) (visibility_at d)) (name_at (codes "queue") d)
+dequeue d = option_and_then (λ queue. option_and_then (λ mode. option_and_then (λ navigation. option_map (λ visibility. statements.Dequeue (plain_dequeue queue mode navigation visibility)) (visibility_at d)) (navigation_at d)) (mode_at d)) (name_at (codes "queue") d)
 
 abbrev pub statement_of : Verb → Data → Option Statement
 statement_of verbs.CreateTable d = create_table d
@@ -72,6 +72,8 @@ statement_of verbs.CreateQueue d = create_queue d
 statement_of verbs.StartQueue d = start_queue d
 statement_of verbs.Enqueue d = enqueue d
 statement_of verbs.Dequeue d = dequeue d
+statement_of verbs.Commit d = Some statements.Commit
+statement_of verbs.Rollback d = Some statements.Rollback
 
 -- a statement has no members but its own
 abbrev pub statement_if : Data → Verb → Option Statement

@@ -25,8 +25,12 @@ pub enum Verb {
     StartQueue,
     /// It puts a message into a queue.
     Enqueue,
-    /// It takes a message out of a queue.
+    /// It takes or shows a message of a queue.
     Dequeue,
+    /// It makes what the session has done last.
+    Commit,
+    /// It takes back what the session has done.
+    Rollback,
 }
 
 /// What the statements of that word do, where they have a meaning so far.
@@ -43,6 +47,10 @@ pub fn verb_of(word: &str) -> Option<Verb>
         Some(Verb::Enqueue)
     } else if word == "dequeue" {
         Some(Verb::Dequeue)
+    } else if word == "commit" {
+        Some(Verb::Commit)
+    } else if word == "rollback" {
+        Some(Verb::Rollback)
     } else {
         None
     }
@@ -53,10 +61,13 @@ fn is_key_of_verb(verb: Verb, key: &str) -> bool
 {
     match verb {
         Verb::CreateTable => key == "table" || key == "fields",
-        Verb::CreateQueue => key == "queue" || key == "table",
+        Verb::CreateQueue => key == "queue" || key == "table" || key == "max_retries",
         Verb::StartQueue => key == "queue",
         Verb::Enqueue => key == "queue" || key == "payload" || key == "visibility",
-        Verb::Dequeue => key == "queue" || key == "visibility",
+        Verb::Dequeue => {
+            key == "queue" || key == "mode" || key == "navigation" || key == "visibility"
+        }
+        Verb::Commit | Verb::Rollback => false,
     }
 }
 

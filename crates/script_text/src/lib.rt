@@ -15,6 +15,3 @@ mod tests;
 pub use fault::ScriptFault;
 pub use laws::script_needs_only_the_front;
 pub use reading::read;
-
-/// The most sessions that a script can declare so far.
-pub const SESSIONS_BUILT: usize = 1;

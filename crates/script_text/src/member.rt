@@ -1,21 +1,40 @@
 // The members of a line, each with what it may hold.
-ghost use Rattle.std.specs.Prelude.{◌≡◌, IfOk, IfSome, IsErrOf, Some, None, option_map};
+ghost use Rattle.std.specs.Prelude.{◌≡◌, IfOk, IfSome, IsErrOf, Some, None, false, option_map};
 ghost use Rattle.serde_json.specs.View.{view};
-ghost use Rattle.queue_rows.specs.declared.statement.Visibility.TheVariants.{Immediate};
-ghost use Rattle.script_text.specs.Member.{text_at, name_at, table_at, fields_at, session_at, is_reserved, place_of, place_at, is_place_built, payload_at, visibility_of, visibility_at, is_visibility_built};
+ghost use Rattle.queue_rows.specs.Dequeueing.{is_by_transaction};
+ghost use Rattle.script_text.specs.Member.{text_at, given_at, number_up_to, name_at, table_at, fields_at, session_at, is_reserved, place_of, place_at, max_retries_at, payload_at, visibility_of, visibility_at, mode_of, mode_at, navigation_of, navigation_at};
 
 use crate::fault::LineFault;
-use aq_base::{DbId, TABLE_NAME_LIMIT};
+use aq_base::{DbId, MAX_RETRIES_LIMIT, TABLE_NAME_LIMIT};
 use payload_records::{Name, NameFault, Payload, RecordType, TypeFault};
-use queue_rows::Visibility;
+use queue_rows::{Mode, Navigation, Visibility};
 use serde_json::Value;
 use std::alloc::Global;
+
+/// How often a removal may be rolled back where nothing is said.
+const DEFAULT_MAX_RETRIES: u64 = 5;
 
 /// The text of a member.
 pub fn text_at<'v>(value: &'v Value, key: &str) -> Option<&'v str>
     ensures { option_map (λ t. t.now) result ≡ text_at key.now (view value.now) }
 {
     value.get(key)?.as_str()
+}
+
+/// A member that may be left out, where it is given; one that is null is not.
+fn given_at<'v>(value: &'v Value, key: &str) -> Option<&'v Value>
+    ensures { option_map (λ member. view member.now) result ≡ given_at key.now (view value.now) }
+{
+    let member = value.get(key)?;
+    if member.is_null() { None } else { Some(member) }
+}
+
+/// A whole number from 0 to the most that it may be.
+fn number_up_to(most: u64, value: &Value) -> Option<u64>
+    ensures { result ≡ number_up_to most (view value.now) }
+{
+    let number = u64::try_from(value.as_i64()?).ok()?;
+    if number > most { None } else { Some(number) }
 }
 
 /// The name of a member.
@@ -90,25 +109,20 @@ fn place_of(text: &str) -> Option<DbId>
     }
 }
 
-/// Whether sessions at that database can be declared so far.
-fn is_place_built(place: DbId) -> bool
-    ensures { result ≡ is_place_built place }
-{
-    match place {
-        DbId::Home => true,
-        DbId::Away => false,
-    }
-}
-
 /// The database of a session that is declared.
 pub fn place_at(value: &Value) -> Option<DbId>
     ensures { result ≡ place_at (view value.now) }
 {
-    let place = place_of(text_at(value, "at")?)?;
-    if is_place_built(place) {
-        Some(place)
-    } else {
-        None
+    place_of(text_at(value, "at")?)
+}
+
+/// How often a removal from a queue may be rolled back.
+pub fn max_retries_at(value: &Value) -> Option<u64>
+    ensures { result ≡ max_retries_at (view value.now) }
+{
+    match given_at(value, "max_retries") {
+        Some(member) => number_up_to(MAX_RETRIES_LIMIT, member),
+        None => Some(DEFAULT_MAX_RETRIES),
     }
 }
 
@@ -135,25 +149,62 @@ fn visibility_of(text: &str) -> Option<Visibility>
     }
 }
 
-/// Whether statements of that visibility have a meaning so far.
-fn is_visibility_built(visibility: Visibility) -> bool
-    ensures { result ≡ is_visibility_built visibility }
+/// When what a statement does is to be seen by others.
+pub fn visibility_at(value: &Value) -> Option<Visibility>
+    ensures { result ≡ visibility_at (view value.now) }
 {
-    match visibility {
-        Visibility::OnCommit => false,
-        Visibility::Immediate => true,
+    match given_at(value, "visibility") {
+        Some(member) => visibility_of(member.as_str()?),
+        None => Some(Visibility::OnCommit),
     }
 }
 
-/// When what a statement does is to be seen by others.
-pub fn visibility_at(value: &Value) -> Option<Visibility>
-    ensures visibility { result ≡ visibility_at (view value.now) }
-    ensures built { IfSome result (λ visibility. visibility ≡ Immediate) }
+fn mode_of(text: &str) -> Option<Mode>
+    ensures { result ≡ mode_of text.now }
 {
-    let visibility = visibility_of(text_at(value, "visibility")?)?;
-    if is_visibility_built(visibility) {
-        Some(visibility)
+    if text == "remove" {
+        Some(Mode::Remove)
+    } else if text == "browse" {
+        Some(Mode::Browse)
+    } else if text == "locked" {
+        Some(Mode::Locked)
+    } else if text == "remove_nodata" {
+        Some(Mode::RemoveNodata)
     } else {
         None
+    }
+}
+
+/// What is to become of a message that a dequeue gives.
+pub fn mode_at(value: &Value) -> Option<Mode>
+    ensures { result ≡ mode_at (view value.now) }
+{
+    match given_at(value, "mode") {
+        Some(member) => mode_of(member.as_str()?),
+        None => Some(Mode::Remove),
+    }
+}
+
+fn navigation_of(text: &str) -> Option<Navigation>
+    ensures navigation { result ≡ navigation_of text.now }
+    ensures built { IfSome result (λ navigation. is_by_transaction navigation ≡ false) }
+{
+    if text == "next" {
+        Some(Navigation::Next)
+    } else if text == "first" {
+        Some(Navigation::First)
+    } else {
+        None
+    }
+}
+
+/// Where a dequeue is to look for its message.
+pub fn navigation_at(value: &Value) -> Option<Navigation>
+    ensures navigation { result ≡ navigation_at (view value.now) }
+    ensures built { IfSome result (λ navigation. is_by_transaction navigation ≡ false) }
+{
+    match given_at(value, "navigation") {
+        Some(member) => navigation_of(member.as_str()?),
+        None => Some(Navigation::Next),
     }
 }

@@ -1,6 +1,7 @@
 // A whole script.
 ghost use Rattle.std.specs.Prelude.{◌≡◌, ◌≤◌, ◌<◌, ◌+◌, [], ◌∷◌, IfOk, IfErr, IfSome, Ok, length, position, option_map, All};
-ghost use Rattle.script_text.specs.Script.{is_line_feed, lines_of, lines_left, room_of, with_lines, script, line_feeds, IsFaultOf, AreWithinLimits, IsShortScript};
+ghost use Rattle.queue_rows.specs.Built.{IsShortScript};
+ghost use Rattle.script_text.specs.Script.{is_line_feed, lines_of, lines_left, room_of, with_lines, script, line_feeds, IsFaultOf, AreWithinLimits};
 ghost use Rattle.aq_base.specs.declared.limits.TheConstants.{INPUT_LIMIT};
 
 use crate::fault::{LineFault, ScriptFault};

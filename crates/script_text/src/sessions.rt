@@ -1,13 +1,12 @@
 // The sessions of a script, as its lines make them one after the other.
 ghost use Rattle.std.specs.Prelude.{◌≡◌, ◌≤◌, ◌<◌, [], position, length, slice_get, slice_set, option_and_then, IfSome, OnOk, OnErr, IsErrOf, Some, None, All};
-ghost use Rattle.queue_rows.specs.Built.{IsBuilt};
+ghost use Rattle.queue_rows.specs.Built.{IsBuilt, IsShortScript};
 ghost use Rattle.script_text.specs.Line.{line_of, IsBuiltLine};
-ghost use Rattle.script_text.specs.Script.{is_of, with_session, with_statement, with_statement_at, with_statement_of, with_line, AreWithinLimits, IsShortScript};
+ghost use Rattle.script_text.specs.Script.{is_of, with_session, with_statement, with_statement_at, with_statement_of, with_line, AreWithinLimits};
 
-use crate::SESSIONS_BUILT;
 use crate::fault::LineFault;
 use crate::line::{Line, read_line};
-use aq_base::{DbId, STATEMENT_LIMIT};
+use aq_base::{DbId, SESSION_LIMIT, STATEMENT_LIMIT};
 use payload_records::{List, Name};
 use queue_rows::{SessionScript, Statement};
 use std::alloc::{AllocError, Global};
@@ -75,7 +74,7 @@ impl Sessions {
         ensures ok { OnOk result (with_session name at self.old ≡ Some self.new) }
         ensures bad { IsErrOf result LineFault.Bad → with_session name at self.old ≡ None }
     {
-        if self.list.len() >= SESSIONS_BUILT || index_of(&self.list, &name).is_some() {
+        if self.list.len() >= SESSION_LIMIT || index_of(&self.list, &name).is_some() {
             return Err(LineFault::Bad);
         }
         let statements = List::new(*self.list.allocator());

@@ -8,14 +8,14 @@ ghost use Rattle.script_text.specs.Statement.{create_table, create_queue, start_
 
 use crate::fault::LineFault;
 use crate::form::{Form, Verb, has_form, verb_of};
-use crate::member::{fields_at, name_at, payload_at, table_at, text_at, visibility_at};
+use crate::member::{
+    fields_at, max_retries_at, mode_at, name_at, navigation_at, payload_at, table_at, text_at,
+    visibility_at,
+};
 use place_keys::SortList;
-use queue_rows::{Admin, Dequeue, Enqueue, Mode, Navigation, QueueKind, Statement};
+use queue_rows::{Admin, Dequeue, Enqueue, QueueKind, Statement};
 use serde_json::Value;
 use std::alloc::Global;
-
-/// How often a removal may be rolled back, where nothing is said.
-const MAX_RETRIES: u64 = 5;
 
 #[tactic(auto, unfolding(crate::specs::Statement::create_table))]
 fn create_table(alloc: Global, value: &Value) -> Result<Statement, LineFault>
@@ -43,11 +43,14 @@ fn create_queue(alloc: Global, value: &Value) -> Result<Statement, LineFault>
 {
     let queue = name_at(alloc, value, "queue")?;
     let table = table_at(alloc, value)?;
+    let Some(max_retries) = max_retries_at(value) else {
+        return Err(LineFault::Bad);
+    };
     Ok(Statement::Admin(Admin::CreateQueue {
         queue,
         table,
         kind: QueueKind::Normal,
-        max_retries: MAX_RETRIES,
+        max_retries,
         retry_delay: 0,
         retention: 0,
     }))
@@ -100,14 +103,20 @@ fn dequeue(alloc: Global, value: &Value) -> Result<Statement, LineFault>
     ensures bad { IsErrOf result LineFault.Bad → dequeue (view value.now) ≡ None }
 {
     let queue = name_at(alloc, value, "queue")?;
+    let Some(mode) = mode_at(value) else {
+        return Err(LineFault::Bad);
+    };
+    let Some(navigation) = navigation_at(value) else {
+        return Err(LineFault::Bad);
+    };
     let Some(visibility) = visibility_at(value) else {
         return Err(LineFault::Bad);
     };
     Ok(Statement::Dequeue(Dequeue {
         queue,
         consumer: None,
-        mode: Mode::Remove,
-        navigation: Navigation::Next,
+        mode,
+        navigation,
         visibility,
         wait: 0,
         msgid: None,
@@ -127,6 +136,8 @@ fn statement_of(alloc: Global, verb: Verb, value: &Value) -> Result<Statement, L
         Verb::StartQueue => start_queue(alloc, value),
         Verb::Enqueue => enqueue(alloc, value),
         Verb::Dequeue => dequeue(alloc, value),
+        Verb::Commit => Ok(Statement::Commit),
+        Verb::Rollback => Ok(Statement::Rollback),
     }
 }
 

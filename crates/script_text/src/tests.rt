@@ -1,9 +1,11 @@
 // Scripts and lines that are read or refused, and the limits.
 use crate::{ScriptFault, read, script_needs_only_the_front};
-use aq_base::{DbId, INPUT_LIMIT, LINE_LIMIT, STATEMENT_LIMIT};
-use payload_records::{Kind, Loose, Payload};
+use aq_base::{DbId, INPUT_LIMIT, LINE_LIMIT, SESSION_LIMIT, STATEMENT_LIMIT};
+use payload_records::{Kind, List, Loose, Payload};
 use place_keys::Column;
-use queue_rows::{Admin, Dequeue, Enqueue, Mode, Navigation, QueueKind, Statement, Visibility};
+use queue_rows::{
+    Admin, Dequeue, Enqueue, Mode, Navigation, QueueKind, SessionScript, Statement, Visibility,
+};
 use std::alloc::{AllocError, Global};
 use std::process::Abort;
 use std::test::Fail;
@@ -150,10 +152,12 @@ fn the_first_path_is_read(rt: HostRuntime) -> Result<(), Fail> {
 
 #[test]
 fn scripts_are_read(rt: HostRuntime) -> Result<(), Fail> {
-    let scripts: [&[u8]; 6] = [
+    let scripts: [&[u8]; 8] = [
         b"",
         b"\n \t\r\n",
         b"{\"session\":\"timers\",\"at\":\"home\"}",
+        b"{\"session\":\"s1\",\"at\":\"away\"}\n{\"s\":\"s1\",\"do\":\"commit\"}\n{\"s\":\"s1\",\"do\":\"rollback\"}",
+        b"{\"session\":\"s2\",\"at\":\"away\"}\n{\"session\":\"s1\",\"at\":\"home\"}\n{\"s\":\"s2\",\"do\":\"commit\"}",
         b" {\"at\" : \"home\", \"session\":\"\\u0073\\u0031\"} \t\r\n",
         b"{\"session\":\"s2\",\"session\":\"s1\",\"at\":\"home\"}\n{\"s\":\"s1\",\"do\":\"start-queue\",\"queue\":\"q\"}",
         b"{\"session\":\"aaaaaaaaaaaaaaaaaaaaaaaaaaaaaa\",\"at\":\"home\"}\n",
@@ -169,7 +173,7 @@ fn first_lines_are_refused(rt: HostRuntime) -> Result<(), Fail> {
     let lines: [&[u8]; 18] = [
         b"{\"s\":\"s1\",\"do\":\"start-queue\",\"queue\":\"q\"}",
         b"{\"session\":\"s1\",\"at\":\"Home\"}",
-        b"{\"session\":\"s1\",\"at\":\"away\"}",
+        b"{\"session\":\"s1\",\"at\":\"nowhere\"}",
         b"{\"session\":\"s1\",\"at\":null}",
         b"{\"session\":\"s1\",\"at\":\"home\",\"x\":1}",
         b"{\"session\":\"s1\",\"at\":\"home\",\"x\":null}",
@@ -196,12 +200,14 @@ fn first_lines_are_refused(rt: HostRuntime) -> Result<(), Fail> {
 fn second_lines_are_refused(rt: HostRuntime) -> Result<(), Fail> {
     let lines: [&[u8]; 31] = [
         b"{\"session\":\"s1\",\"at\":\"home\"}",
-        b"{\"session\":\"s2\",\"at\":\"home\"}",
+        b"{\"session\":\"s1\",\"at\":\"away\"}",
         b"{\"s\":\"s1\"",
         b"{\"s\":\"s1\"}",
         b"{\"s\":\"s2\",\"do\":\"start-queue\",\"queue\":\"q\"}",
         b"{\"s\":\"s1\",\"do\":\"compact\"}",
-        b"{\"s\":\"s1\",\"do\":\"commit\"}",
+        b"{\"s\":\"s1\",\"do\":\"Commit\"}",
+        b"{\"s\":\"s1\",\"do\":\"commit\",\"queue\":\"q\"}",
+        b"{\"s\":\"s1\",\"do\":\"rollback\",\"x\":null}",
         b"{\"s\":\"s1\",\"do\":\"start-queue\",\"queue\":\"q\",}",
         b"{\"s\":\"s1\",\"do\":\"start-queue\",\"queue\":\"q\",\"x\":null}",
         b"{\"s\":\"s1\",\"do\":\"start-queue\",\"queue\":null}",
@@ -220,10 +226,8 @@ fn second_lines_are_refused(rt: HostRuntime) -> Result<(), Fail> {
         b"{\"s\":\"s1\",\"do\":\"create-table\",\"table\":\"aaaaaaaaaaaaaaaaaaaaaaaaaaaaa\",\"fields\":{}}",
         b"{\"s\":\"s1\",\"do\":\"create-queue\",\"queue\":\"q\",\"table\":\"aaaaaaaaaaaaaaaaaaaaaaaaaaaaa\"}",
         b"{\"s\":\"s1\",\"do\":\"enqueue\",\"queue\":\"q\",\"visibility\":\"immediate\"}",
-        b"{\"s\":\"s1\",\"do\":\"enqueue\",\"queue\":\"q\",\"payload\":{}}",
-        b"{\"s\":\"s1\",\"do\":\"enqueue\",\"queue\":\"q\",\"payload\":{},\"visibility\":\"on_commit\"}",
-        b"{\"s\":\"s1\",\"do\":\"dequeue\",\"queue\":\"q\",\"visibility\":null}",
-        b"{\"s\":\"s1\",\"do\":\"dequeue\",\"queue\":\"q\",\"visibility\":\"later\"}",
+        b"{\"s\":\"s1\",\"do\":\"enqueue\",\"queue\":\"q\",\"payload\":{},\"visibility\":1}",
+        b"{\"s\":\"s1\",\"do\":\"enqueue\",\"queue\":\"q\",\"payload\":{},\"mode\":\"remove\"}",
         b"[]",
         b"\x0c",
     ];
@@ -233,14 +237,200 @@ fn second_lines_are_refused(rt: HostRuntime) -> Result<(), Fail> {
     Ok(())
 }
 
+fn check_one_dequeue(
+    rt: &impl Abort,
+    sessions: &List<SessionScript>,
+    mode: Mode,
+    navigation: Navigation,
+    visibility: Visibility,
+) {
+    for session in sessions {
+        assert_eq!(rt; session.statements.len(), 1);
+        for statement in &session.statements {
+            match statement {
+                Statement::Dequeue(ask) => {
+                    assert_eq!(rt; ask.mode, mode);
+                    assert_eq!(rt; ask.navigation, navigation);
+                    assert_eq!(rt; ask.visibility, visibility);
+                }
+                _ => assert!(rt; false, "another statement"),
+            }
+        }
+    }
+}
+
+#[test]
+fn members_of_a_dequeue_are_read(rt: HostRuntime) -> Result<(), Fail> {
+    let rows: [(&str, Mode, Navigation, Visibility); 8] = [
+        ("", Mode::Remove, Navigation::Next, Visibility::OnCommit),
+        (
+            ",\"mode\":null,\"navigation\":null,\"visibility\":null",
+            Mode::Remove,
+            Navigation::Next,
+            Visibility::OnCommit,
+        ),
+        (
+            ",\"mode\":\"remove\",\"navigation\":\"next\",\"visibility\":\"on_commit\"",
+            Mode::Remove,
+            Navigation::Next,
+            Visibility::OnCommit,
+        ),
+        (
+            ",\"mode\":\"browse\"",
+            Mode::Browse,
+            Navigation::Next,
+            Visibility::OnCommit,
+        ),
+        (
+            ",\"mode\":\"locked\"",
+            Mode::Locked,
+            Navigation::Next,
+            Visibility::OnCommit,
+        ),
+        (
+            ",\"mode\":\"remove_nodata\"",
+            Mode::RemoveNodata,
+            Navigation::Next,
+            Visibility::OnCommit,
+        ),
+        (
+            ",\"navigation\":\"first\"",
+            Mode::Remove,
+            Navigation::First,
+            Visibility::OnCommit,
+        ),
+        (
+            ",\"visibility\":\"immediate\"",
+            Mode::Remove,
+            Navigation::Next,
+            Visibility::Immediate,
+        ),
+    ];
+    for (members, mode, navigation, visibility) in rows {
+        let text = format!(in rt.alloc();
+            "{DECLARATION}{{\"s\":\"s1\",\"do\":\"dequeue\",\"queue\":\"q\"{members}}}"
+        )?;
+        let sessions = read(rt.alloc(), text.as_bytes())?;
+        assert_eq!(rt; sessions.len(), 1);
+        check_one_dequeue(&rt, &sessions, mode, navigation, visibility);
+    }
+    Ok(())
+}
+
+#[test]
+fn members_of_a_dequeue_are_refused(rt: HostRuntime) -> Result<(), Fail> {
+    let members = [
+        "\"mode\":\"\"",
+        "\"mode\":\"Remove\"",
+        "\"mode\":\"remove-nodata\"",
+        "\"mode\":1",
+        "\"mode\":[\"remove\"]",
+        "\"navigation\":\"next_transaction\"",
+        "\"navigation\":\"last\"",
+        "\"navigation\":false",
+        "\"visibility\":\"later\"",
+        "\"visibility\":{}",
+        "\"max_retries\":5",
+        "\"wait\":0",
+        "\"msgid\":null",
+    ];
+    for member in members {
+        let line = format!(in rt.alloc();
+            "{{\"s\":\"s1\",\"do\":\"dequeue\",\"queue\":\"q\",{member}}}"
+        )?;
+        assert_eq!(rt;
+            bad_line_behind(rt.alloc(), line.as_bytes())?,
+            Some(2),
+            "{member}"
+        );
+    }
+    Ok(())
+}
+
+/// The retries of the queue that a text's first statement makes, or None where the text is no script.
+fn max_retries_of(alloc: Global, text: &[u8]) -> Result<Option<u64>, AllocError> {
+    let sessions = match read(alloc, text) {
+        Ok(sessions) => sessions,
+        Err(ScriptFault::Bad { .. }) => return Ok(None),
+        Err(ScriptFault::Memory) => return Err(AllocError),
+    };
+    let Some(session) = sessions.get(0) else {
+        return Ok(None);
+    };
+    match session.statements.get(0) {
+        Some(Statement::Admin(Admin::CreateQueue { max_retries, .. })) => Ok(Some(*max_retries)),
+        _ => Ok(None),
+    }
+}
+
+#[test]
+fn retries_are_read(rt: HostRuntime) -> Result<(), Fail> {
+    let rows = [
+        ("", Some(5u64)),
+        (",\"max_retries\":null", Some(5)),
+        (",\"max_retries\":0", Some(0)),
+        (",\"max_retries\":7", Some(7)),
+        (",\"max_retries\":2147483647", Some(2_147_483_647)),
+        (",\"max_retries\":2147483648", None),
+        (",\"max_retries\":9223372036854775808", None),
+        (",\"max_retries\":-1", None),
+        (",\"max_retries\":-0", None),
+        (",\"max_retries\":5.0", None),
+        (",\"max_retries\":\"5\"", None),
+        (",\"max_retries\":true", None),
+        (",\"max_retries\":[]", None),
+        (",\"retry_delay\":0", None),
+        (",\"retention\":null", None),
+        (",\"kind\":\"normal\"", None),
+    ];
+    for (members, max_retries) in rows {
+        let text = format!(in rt.alloc();
+            "{DECLARATION}{{\"s\":\"s1\",\"do\":\"create-queue\",\"queue\":\"q\",\"table\":\"t\"{members}}}"
+        )?;
+        assert_eq!(rt;
+            max_retries_of(rt.alloc(), text.as_bytes())?,
+            max_retries,
+            "{members}"
+        );
+    }
+    Ok(())
+}
+
+#[test]
+fn sessions_are_counted(rt: HostRuntime) -> Result<(), Fail> {
+    let mut text = Vec::new(rt.alloc());
+    for number in 0..SESSION_LIMIT {
+        let at = if number % 2 == 0 { "home" } else { "away" };
+        let line = format!(in rt.alloc(); "{{\"session\":\"s{number}\",\"at\":\"{at}\"}}\n")?;
+        text.extend_from_slice(line.as_bytes())?;
+    }
+    let sessions = read(rt.alloc(), &text)?;
+    assert_eq!(rt; sessions.len(), SESSION_LIMIT);
+    for (number, session) in sessions.iter().enumerate() {
+        let at = if number % 2 == 0 {
+            DbId::Home
+        } else {
+            DbId::Away
+        };
+        assert_eq!(rt; session.at, at);
+    }
+    text.extend_from_slice(b"{\"session\":\"one_more\",\"at\":\"home\"}")?;
+    assert_eq!(rt; bad_line(rt.alloc(), &text)?, Some(65));
+    Ok(())
+}
+
 #[test]
 fn later_lines_are_counted(rt: HostRuntime) -> Result<(), Fail> {
-    let rows: [(&[u8], Option<u64>); 6] = [
+    let rows: [(&[u8], Option<u64>); 7] = [
         (b"\n{\"s\":\"s1\"\n\n[]", Some(3)),
         (b"\n \t\n\r\nx", Some(5)),
         (b"\n\n\n", None),
         (
             b"{\"s\":\"s1\",\"do\":\"enqueue\",\"queue\":\"q\",\"payload\":null,\"visibility\":\"immediate\"}",
+            None,
+        ),
+        (
+            b"{\"s\":\"s1\",\"do\":\"enqueue\",\"queue\":\"q\",\"payload\":{}}\n{\"s\":\"s1\",\"do\":\"enqueue\",\"queue\":\"q\",\"payload\":{},\"visibility\":null}",
             None,
         ),
         (

@@ -1,8 +1,7 @@
-use Rattle.std.proofs.Common.{arith}
 use Rattle.queue_rows.specs.Tables.{empty_tables}
 use Rattle.queue_rows.specs.Serial.{IsSerial, IsSerialFront}
 use Rattle.queue_rows.specs.Turns.{step_readings}
-use Rattle.aq_run.proofs.Playing.{readings-begun, at-begun, told-begun, count-begun, whole-run, part-run, serial-front}
+use Rattle.aq_run.proofs.Playing.{readings-begun, at-begun, told-begun, short-begun, whole-run, part-run, serial-front}
 use Rattle.aq_run.proofs.play.play.Goals as goal
 
 pub run-requires-clause-readings : goal.run-requires-clause-readings
@@ -14,11 +13,11 @@ run-requires-clause-at c = at-begun c.args.scripts c.in_ok-world.world c.in_ok-w
 pub run-requires-clause-told : goal.run-requires-clause-told
 run-requires-clause-told c = told-begun c.args.scripts c.in_ok-world.world c.in_ok-world.ensures
 
-pub run-requires-clause-count : goal.run-requires-clause-count
-run-requires-clause-count c = omega (arith, count-begun c.args.scripts c.in_ok-world.world c.in_ok-world.ensures, c.requires.within.sessions)
+pub run-requires-clause-short : goal.run-requires-clause-short
+run-requires-clause-short c = short-begun c.args.scripts c.in_ok-world.world c.in_ok-world.ensures c.requires.short
 
 serial : (c : goal.After-finish) → IsSerial empty_tables empty_tables c.args.scripts c.finish.result
-serial c = whole-run c.args.scripts c.in_ok-world.world c.run.new.self c.finish.result c.in_ok-world.ensures c.in-Ok.ensures.whole c.in-Ok.ensures.scripts c.finish.ensures.entries c.finish.ensures.begins
+serial c = whole-run c.args.scripts c.in_ok-world.world c.run.new.world c.finish.result c.in_ok-world.ensures c.in-Ok.ensures.whole c.in-Ok.ensures.scripts c.finish.ensures.entries c.finish.ensures.begins
 
 pub returns-in-Ok-clause-whole : goal.returns-in-Ok-clause-whole
 returns-in-Ok-clause-whole c = λ _. serial c
@@ -35,7 +34,7 @@ returns-in-Ok-clause-first c =
     (front, legal, c.legal_calls_in_order.ensures empty_tables empty_tables c.args.scripts c.finish.result legal)
 
 part : (c : goal.After-finish-in-Err) → IsSerialFront empty_tables empty_tables c.args.scripts c.finish-in-Err.result
-part c = part-run c.args.scripts c.in_ok-world.world c.run.new.self c.finish-in-Err.result c.in_ok-world.ensures c.in-Err.ensures.front c.in-Err.ensures.scripts c.finish-in-Err.ensures.entries c.finish-in-Err.ensures.begins
+part c = part-run c.args.scripts c.in_ok-world.world c.run.new.world c.finish-in-Err.result c.in_ok-world.ensures c.in-Err.ensures.front c.in-Err.ensures.scripts c.finish-in-Err.ensures.entries c.finish-in-Err.ensures.begins
 
 pub returns-in-Err-clause-front : goal.returns-in-Err-clause-front
 returns-in-Err-clause-front c = λ _. part c
