@@ -9,13 +9,13 @@ use std::time::Duration;
 /// Places to sleep. Tickets that far apart share one, which costs a needless wake and no more.
 const CHAIRS: usize = 128;
 
-/// A thread with fewer turns ahead of its own spins before it sleeps.
+/// A thread with fewer turns ahead of its own is woken, and looks for its turn before it sleeps again.
 const NEAR: u64 = 2;
 
-/// How many looks it spins for, some microseconds, and how many it then yields for.
-const SPINS: u32 = 200;
+/// For how many looks it spins, and for how many it then leaves its processor to whoever has use for it.
+const SPINS: u32 = 20;
 
-const YIELDS: u32 = 2;
+const YIELDS: u32 = 50;
 
 /// The first nap in microseconds for each turn ahead. The next ones double up to a millisecond.
 const NAP: u64 = 64;
@@ -65,8 +65,8 @@ impl Line {
 
     /// Waits until the ticket is served, or patience ends.
     pub fn wait<R: Wait>(&self, rt: &R, ticket: &mut Ticket) {
-        self.spin(ticket);
         for _ in 0..PATIENCE {
+            self.look(ticket);
             if self.ahead(ticket) == 0 {
                 return;
             }
@@ -87,10 +87,15 @@ impl Line {
         }
     }
 
-    /// Serves the next ticket, and wakes who sleeps with it.
+    /// Serves the next ticket, and wakes who sleeps with it. The one behind it is woken too: to wake takes as long as some turns.
     pub fn call_next(&self) {
         let next = self.served.fetch_add(1, Ordering::SeqCst).wrapping_add(1);
-        let chair = self.chair(next);
+        self.wake(next);
+        self.wake(next.wrapping_add(NEAR - 1));
+    }
+
+    fn wake(&self, number: u64) {
+        let chair = self.chair(number);
         if chair.load(Ordering::SeqCst) == ASLEEP {
             chair.store(EMPTY, Ordering::SeqCst);
             chair.wake_all();
@@ -98,7 +103,7 @@ impl Line {
     }
 
     // Looks for a while, as long as the ticket is near the front.
-    fn spin(&self, ticket: &Ticket) {
+    fn look(&self, ticket: &Ticket) {
         for look in 0..SPINS + YIELDS {
             let ahead = self.ahead(ticket);
             if ahead == 0 || ahead >= NEAR {

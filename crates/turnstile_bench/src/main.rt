@@ -33,7 +33,8 @@ fn main(rt: HostRuntime) -> io::Result<()> {
     }
     for (effort, turns, many) in [
         (0, 20_000, 200_000),
-        (500, 5_000, 20_000),
+        (1_000, 4_000, 16_000),
+        (2_000, 2_000, 8_000),
         (5_000, 1_000, 2_000),
     ] {
         cost::compare(&rt, 1, turns, effort, ROUNDS)?;
