@@ -1,6 +1,16 @@
+pub mod BlockLemmas
+pub mod CellLemmas
+pub mod CountLemmas
+pub mod EnteringLemmas
 pub mod EntryLemmas
+pub mod GroupLemmas
+pub mod GroupedLemmas
+pub mod HolderLemmas
 pub mod IndexLemmas
+pub mod LeavingLemmas
+pub mod PlaceLemmas
 pub mod SessionLemmas
 pub mod SlotLemmas
 pub mod TableLemmas
+pub mod TallyLemmas
 pub mod SoundLemmas

@@ -1,5 +1,5 @@
 -- What changes where one session's marks change, and who holds what then.
-use Rattle.std.proofs.Common.{◌≡◌, ◌≢◌, ℕ, suc, zero, ◌<◌, ◌≤◌, List, [], ◌∷◌, ◌++◌, length, length-set, ◌-◌, IfSome, IfNone, map, Bool, true, false, not, IsTrue, ◌&&◌, ◌||◌, ◌==◌, ◌⊎◌, inl, inr, Option, Some, None, slice_set, slice_index_or, refl, sym, ◌∙◌, ap, subst, arith}
+use Rattle.std.proofs.Common.{◌≡◌, ◌≢◌, ℕ, ◌<◌, ◌≤◌, List, [], ◌∷◌, ◌++◌, length, length-set, ◌-◌, IfSome, IfNone, map, Bool, true, false, not, IsTrue, ◌&&◌, ◌||◌, ◌==◌, ◌⊎◌, inl, inr, Option, Some, None, slice_set, refl, sym, ◌∙◌, ap, subst, arith}
 use Rattle.std.specs.List.{list_any, filter}
 use Rattle.std.specs.Option.{option_eq, option_map_or}
 use Rattle.std.specs.Str.{bytes_eq}
@@ -10,20 +10,6 @@ use Rattle.std.proofs.lemmas.Slice.Eq.{bytes_eq-Decides}
 use Rattle.row_locks.specs.Marks.{SessionMarks, no_marks, marks_of, spare_of, is_on, is_same_group, is_in_group, has_slot, has_group, has_any_group, HasSlot, HasGroup, kept_beside, released, SameMarks, ChangesOnly, AreHeldOnce, IsFreeFor, NoOtherHasSlot, NoOtherHasGroup, IsFreeSlot, IsFreeGroup}
 use Rattle.row_locks.specs.declared.mark.Group.{Group}
 use Rattle.row_locks.specs.declared.mark.Mark.{Mark}
-
--- an empty session at the end changes nothing
-pub padded : (locks : List SessionMarks) (s : ℕ) → slice_index_or (locks ++ no_marks ∷ []) s no_marks ≡ slice_index_or locks s no_marks
-padded [] zero = refl
-padded [] (suc s) = refl
-padded (x ∷ xs) zero = refl
-padded (x ∷ xs) (suc s) = padded xs s
-
--- what holds of the sessions that are there, and of one without marks, holds of all
-pub everywhere : (P : List Mark → Type 0) (locks : List SessionMarks) → P [] → ((k : ℕ) → k < length locks → P (marks_of locks k)) → (s : ℕ) → P (marks_of locks s)
-everywhere P locks none within s = elim (cases_lt s (length locks)) [
-  | inl below ↦ within s below
-  | inr past ↦ let Q : SessionMarks → Type 0 = λ m. P m.marks in subst Q (sym (get_or_past locks s no_marks past)) none
-]
 
 pub one_changed : (locks : List SessionMarks) (s : ℕ) (m : SessionMarks) → ChangesOnly locks (slice_set locks s m) s
 one_changed locks s m = record {
@@ -45,13 +31,6 @@ there_with_room locks s room = elim (cases_lt s (length locks)) [
       let none : spare_of locks s ≡ 0 = ap (λ x. x.spare) (get_or_past locks s no_marks past) in
       absurd (omega arith)
 ]
-
--- marks of a session that is not there
-pub none_past : (locks : List SessionMarks) (s : ℕ) → length locks ≤ s → marks_of locks s ≡ []
-none_past locks s past = ap (λ x. x.marks) (get_or_past locks s no_marks past)
-
-pub nothing_changed : (locks : List SessionMarks) (s : ℕ) → ChangesOnly locks locks s
-nothing_changed locks s = record { marks = λ other ne. refl; spare = λ other ne. refl }
 
 -- a test that one session at most passes stays so where only one session's marks change, and pass it only
 -- if they did before, or if no other session's do
@@ -155,7 +134,7 @@ pub groups_released : (marks : List Mark) (id slot : ℕ) (group : Option Group)
 groups_released marks id slot None h = h
 groups_released marks id slot (Some group) h = any-filter (is_in_group group) (λ mark. not (is_on id slot mark)) marks h
 
-same_consumer : (a b : Option (List ℕ)) → option_eq bytes_eq a b ≡ true → a ≡ b
+pub same_consumer : (a b : Option (List ℕ)) → option_eq bytes_eq a b ≡ true → a ≡ b
 same_consumer None None e = refl
 same_consumer None (Some y) e = cc e
 same_consumer (Some x) None e = cc e
@@ -170,7 +149,7 @@ same_group a b e =
     let consumer = same_consumer a.consumer b.consumer outer.1 in
     λ i. record { queue = queue i; number = number i; consumer = consumer i }
 
-in_its_group : (mark : Mark) (group : Group) → IsTrue (is_in_group group mark) → mark.group ≡ Some group
+pub in_its_group : (mark : Mark) (group : Group) → IsTrue (is_in_group group mark) → mark.group ≡ Some group
 in_its_group mark group h = by mark.group h
   where
     by : (own : Option Group) → option_map_or (λ g. is_same_group g group) own false ≡ true → own ≡ Some group

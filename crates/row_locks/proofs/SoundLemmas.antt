@@ -4,14 +4,15 @@ use Rattle.std.specs.Option.{option_map}
 use Rattle.std.proofs.lemmas.Bool.{cases_eq, cases_lt, cases_Bool, both_ways}
 use Rattle.std.proofs.lemmas.List.{length-map, get_or_past, get_or-set_same, get_or-set_other, map-set}
 use Rattle.std.proofs.lemmas.List.Sums.{sum_by-set}
-use Rattle.row_locks.specs.Marks.{SessionMarks, no_marks, marks_of, spare_of, is_on, has_slot, has_group, has_any_group, kept_beside, released, IsFreeSlot, IsFreeFor, SameMarks, ChangesOnly}
-use Rattle.row_locks.specs.Entries.{SessionEntries, no_entries, shown, present, entry_at, all_spare}
+use Rattle.row_locks.specs.Marks.{SessionMarks, no_marks, marks_of, spare_of, is_on, has_slot, has_any_group, kept_beside, released, IsFreeSlot, IsFreeFor, SameMarks, ChangesOnly}
+use Rattle.row_locks.specs.Entries.{SessionEntries, no_entries, shown, unranked, present, entry_at, all_spare, with_mark, with_entry, with_room}
 use Rattle.row_locks.specs.Slots.{IsSlotIndex, IsSound}
 use Rattle.row_locks.specs.declared.mark.Group.{Group}
 use Rattle.row_locks.specs.declared.mark.Mark.{Mark}
 use Rattle.row_locks.specs.declared.slots.Hold.{Hold}
 use Rattle.row_locks.proofs.EntryLemmas.{present-push, taken_out, changed_in_place}
 use Rattle.row_locks.proofs.IndexLemmas.{kept_off}
+use Rattle.row_locks.proofs.PlaceLemmas.{unranked_at, unranked_spare, unranked_length}
 use Rattle.row_locks.proofs.TableLemmas.{marks_at, spare_there, shown_at, only_there, held_there, index_same}
 use Rattle.row_locks.proofs.SessionLemmas.{one_changed, marks_set, spare_set, held_after_put, held_after_keep, held_after_release, once_with_same, once_with_fewer}
 
@@ -31,10 +32,10 @@ spare_below tables s = elim (cases_lt s (length tables)) [
       omega arith
 ]
 
-pub put_shown : (tables : List SessionEntries) (s : ℕ) (mark : Mark)
-    → map shown (slice_set tables s (record { entries = (slice_index_or tables s no_entries).entries ++ Some mark ∷ []; spare = (slice_index_or tables s no_entries).spare - 1 }))
+pub put_shown : (tables : List SessionEntries) (s : ℕ) (mark : Mark) (rank : Option ℕ)
+    → map shown (slice_set tables s (with_mark (slice_index_or tables s no_entries) mark rank))
     ≡ slice_set (map shown tables) s (record { marks = marks_of (map shown tables) s ++ mark ∷ []; spare = spare_of (map shown tables) s - 1 })
-put_shown tables s mark =
+put_shown tables s mark rank =
     map-set shown tables s _
     ∙ ap (slice_set (map shown tables) s)
     (λ i. record {
@@ -44,12 +45,7 @@ put_shown tables s mark =
 
 pub kept_shown : (tables : List SessionEntries) (hold : ℕ → ℕ → Option Hold) (mark : Mark) (it : Hold) → IsSlotIndex tables hold → hold mark.id mark.slot ≡ Some it
     → map shown (
-    slice_set tables it.session (
-    record {
-      entries = slice_set (slice_index_or tables it.session no_entries).entries it.at (option_map (kept_beside mark) (entry_at (slice_index_or tables it.session no_entries).entries it.at));
-      spare = (slice_index_or tables it.session no_entries).spare;
-    }
-    )
+    slice_set tables it.session (with_entry (slice_index_or tables it.session no_entries) it.at (option_map (kept_beside mark) (entry_at (slice_index_or tables it.session no_entries).entries it.at)))
     ) ≡ slice_set (map shown tables) it.session (record { marks = map (kept_beside mark) (marks_of (map shown tables) it.session); spare = spare_of (map shown tables) it.session })
 kept_shown tables hold mark it index is =
     let es = (slice_index_or tables it.session no_entries).entries in
@@ -61,7 +57,7 @@ kept_shown tables hold mark it index is =
     (λ i. record { marks = (kept ∙ ap (map (kept_beside mark)) (sym (marks_at tables it.session))) i; spare = sym (spare_there tables it.session) i })
 
 pub released_shown : (tables : List SessionEntries) (hold : ℕ → ℕ → Option Hold) (id slot : ℕ) (it : Hold) → IsSlotIndex tables hold → hold id slot ≡ Some it
-    → map shown (slice_set tables it.session (record { entries = slice_set (slice_index_or tables it.session no_entries).entries it.at None; spare = (slice_index_or tables it.session no_entries).spare }))
+    → map shown (slice_set tables it.session (with_entry (slice_index_or tables it.session no_entries) it.at None))
     ≡ slice_set (map shown tables) it.session (record { marks = released (marks_of (map shown tables) it.session) id slot; spare = spare_of (map shown tables) it.session })
 released_shown tables hold id slot it index is =
     let es = (slice_index_or tables it.session no_entries).entries in
@@ -97,15 +93,15 @@ free_for_all tables s mark own free = λ t. elim (cases_eq t s) [
 sum_set : (tables : List SessionEntries) (s : ℕ) (table : SessionEntries) → s < length tables → all_spare (slice_set tables s table) + (slice_index_or tables s no_entries).spare ≡ all_spare tables + table.spare
 sum_set tables s table there = sum_by-set (λ t. t.spare) tables s table no_entries there
 
-pub put_sound : (tables : List SessionEntries) (hold now : ℕ → ℕ → Option Hold) (spare room left s : ℕ) (mark : Mark) → IsSound tables hold spare room → s < length tables
+pub put_sound : (tables : List SessionEntries) (hold now : ℕ → ℕ → Option Hold) (spare room left s : ℕ) (mark : Mark) (rank : Option ℕ) → IsSound tables hold spare room → s < length tables
     → 0 < (slice_index_or tables s no_entries).spare → IsFreeFor (map shown tables) s mark
-    → IsSlotIndex (slice_set tables s (record { entries = (slice_index_or tables s no_entries).entries ++ Some mark ∷ []; spare = (slice_index_or tables s no_entries).spare - 1 })) now
+    → IsSlotIndex (slice_set tables s (with_mark (slice_index_or tables s no_entries) mark rank)) now
     → room ≤ left + 1
-    → IsSound (slice_set tables s (record { entries = (slice_index_or tables s no_entries).entries ++ Some mark ∷ []; spare = (slice_index_or tables s no_entries).spare - 1 })) now (spare - 1) left
-put_sound tables hold now spare room left s mark sound there has free index fits =
-    let put : SessionEntries = record { entries = (slice_index_or tables s no_entries).entries ++ Some mark ∷ []; spare = (slice_index_or tables s no_entries).spare - 1 } in
+    → IsSound (slice_set tables s (with_mark (slice_index_or tables s no_entries) mark rank)) now (spare - 1) left
+put_sound tables hold now spare room left s mark rank sound there has free index fits =
+    let put : SessionEntries = with_mark (slice_index_or tables s no_entries) mark rank in
     let some : 0 < spare_of (map shown tables) s = rw (spare_there tables s) has in
-    let held = held_after_put (2 ^ 32) (map shown tables) (map shown (slice_set tables s put)) s mark (put_shown tables s mark) some free (rw (shown_length tables) sound.bound, sound.once) in
+    let held = held_after_put (2 ^ 32) (map shown tables) (map shown (slice_set tables s put)) s mark (put_shown tables s mark rank) some free (rw (shown_length tables) sound.bound, sound.once) in
     let sum = sum_set tables s put there in
     record {
       bound = rw length-set sound.bound;
@@ -116,16 +112,11 @@ put_sound tables hold now spare room left s mark sound there has free index fits
     }
 
 pub kept_sound : (tables new : List SessionEntries) (hold now : ℕ → ℕ → Option Hold) (spare room left : ℕ) (mark : Mark) (it : Hold) → IsSound tables hold spare room → hold mark.id mark.slot ≡ Some it
-    → new ≡ slice_set tables it.session (
-    record {
-      entries = slice_set (slice_index_or tables it.session no_entries).entries it.at (option_map (kept_beside mark) (entry_at (slice_index_or tables it.session no_entries).entries it.at));
-      spare = (slice_index_or tables it.session no_entries).spare;
-    }
-    )
+    → new ≡ slice_set tables it.session (with_entry (slice_index_or tables it.session no_entries) it.at (option_map (kept_beside mark) (entry_at (slice_index_or tables it.session no_entries).entries it.at)))
     → IsSlotIndex new now → room ≤ left → IsSound new now spare left
 kept_sound tables new hold now spare room left mark it sound is made index fits =
     let es = (slice_index_or tables it.session no_entries).entries in
-    let kept : SessionEntries = record { entries = slice_set es it.at (option_map (kept_beside mark) (entry_at es it.at)); spare = (slice_index_or tables it.session no_entries).spare } in
+    let kept : SessionEntries = with_entry (slice_index_or tables it.session no_entries) it.at (option_map (kept_beside mark) (entry_at es it.at)) in
     let there = held_there tables hold mark.id mark.slot it sound.slots is in
     let inside : it.session < length (map shown tables) = rw (shown_length tables) there.0 in
     let held = held_after_keep (2 ^ 32) (map shown tables) (map shown new) it.session mark (ap (map shown) made ∙ kept_shown tables hold mark it sound.slots is) inside (rw (shown_length tables) sound.bound, sound.once) in
@@ -140,11 +131,11 @@ kept_sound tables new hold now spare room left mark it sound is made index fits 
     }
 
 pub released_sound : (tables new : List SessionEntries) (hold now : ℕ → ℕ → Option Hold) (spare room left id slot : ℕ) (it : Hold) → IsSound tables hold spare room → hold id slot ≡ Some it
-    → new ≡ slice_set tables it.session (record { entries = slice_set (slice_index_or tables it.session no_entries).entries it.at None; spare = (slice_index_or tables it.session no_entries).spare })
+    → new ≡ slice_set tables it.session (with_entry (slice_index_or tables it.session no_entries) it.at None)
     → IsSlotIndex new now → room ≤ left → IsSound new now spare left
 released_sound tables new hold now spare room left id slot it sound is made index fits =
     let es = (slice_index_or tables it.session no_entries).entries in
-    let gone : SessionEntries = record { entries = slice_set es it.at None; spare = (slice_index_or tables it.session no_entries).spare } in
+    let gone : SessionEntries = with_entry (slice_index_or tables it.session no_entries) it.at None in
     let there = held_there tables hold id slot it sound.slots is in
     let inside : it.session < length (map shown tables) = rw (shown_length tables) there.0 in
     let held = held_after_release (2 ^ 32) (map shown tables) (map shown new) it.session id slot (ap (map shown) made ∙ released_shown tables hold id slot it sound.slots is) inside (rw (shown_length tables) sound.bound, sound.once) in
@@ -183,22 +174,22 @@ emptied_sound tables new hold now spare room left s sound there made index fits 
       fits = let most = sound.fits in omega arith;
     }
 
-pub same_shown : (tables new : List SessionEntries) → ((s : ℕ) → slice_index_or new s no_entries ≡ slice_index_or tables s no_entries)
+pub same_shown : (tables new : List SessionEntries) → ((s : ℕ) → unranked (slice_index_or new s no_entries) ≡ unranked (slice_index_or tables s no_entries))
     → (s : ℕ) → slice_index_or (map shown new) s no_marks ≡ slice_index_or (map shown tables) s no_marks
 same_shown tables new same s = shown_at new s ∙ ap shown (same s) ∙ sym (shown_at tables s)
 
-pub same_marks : (tables new : List SessionEntries) → ((s : ℕ) → slice_index_or new s no_entries ≡ slice_index_or tables s no_entries) → SameMarks (map shown tables) (map shown new)
+pub same_marks : (tables new : List SessionEntries) → ((s : ℕ) → unranked (slice_index_or new s no_entries) ≡ unranked (slice_index_or tables s no_entries)) → SameMarks (map shown tables) (map shown new)
 same_marks tables new same = λ s. ap (λ m. m.marks) (same_shown tables new same s)
 
-pub same_spare : (tables new : List SessionEntries) → ((s : ℕ) → slice_index_or new s no_entries ≡ slice_index_or tables s no_entries) → (s : ℕ) → spare_of (map shown new) s ≡ spare_of (map shown tables) s
+pub same_spare : (tables new : List SessionEntries) → ((s : ℕ) → unranked (slice_index_or new s no_entries) ≡ unranked (slice_index_or tables s no_entries)) → (s : ℕ) → spare_of (map shown new) s ≡ spare_of (map shown tables) s
 same_spare tables new same = λ s. ap (λ m. m.spare) (same_shown tables new same s)
 
-pub changes_nothing : (tables new : List SessionEntries) (s : ℕ) → ((t : ℕ) → slice_index_or new t no_entries ≡ slice_index_or tables t no_entries) → ChangesOnly (map shown tables) (map shown new) s
+pub changes_nothing : (tables new : List SessionEntries) (s : ℕ) → ((t : ℕ) → unranked (slice_index_or new t no_entries) ≡ unranked (slice_index_or tables t no_entries)) → ChangesOnly (map shown tables) (map shown new) s
 changes_nothing tables new s same = record { marks = λ t ne. same_marks tables new same t; spare = λ t ne. same_spare tables new same t }
 
 -- the same tables, some of them empty at the end
 pub same_sound : (tables new : List SessionEntries) (hold now : ℕ → ℕ → Option Hold) (spare room left : ℕ) → IsSound tables hold spare room
-    → ((s : ℕ) → slice_index_or new s no_entries ≡ slice_index_or tables s no_entries) → all_spare new ≡ all_spare tables → (length tables ≤ 2 ^ 32 → length new ≤ 2 ^ 32)
+    → ((s : ℕ) → unranked (slice_index_or new s no_entries) ≡ unranked (slice_index_or tables s no_entries)) → all_spare new ≡ all_spare tables → (length tables ≤ 2 ^ 32 → length new ≤ 2 ^ 32)
     → ((id slot : ℕ) → now id slot ≡ hold id slot) → room ≤ left → IsSound new now spare left
 same_sound tables new hold now spare room left sound same sum bound told fits = record {
   bound = bound sound.bound;
@@ -208,12 +199,17 @@ same_sound tables new hold now spare room left sound same sum bound told fits = 
   fits = let most = sound.fits in omega arith;
 }
 
+-- ranks alone change
+pub unranked_sound : (tables new : List SessionEntries) (hold : ℕ → ℕ → Option Hold) (spare room : ℕ) → IsSound tables hold spare room → map unranked new ≡ map unranked tables → IsSound new hold spare room
+unranked_sound tables new hold spare room sound same =
+    same_sound tables new hold hold spare room room sound (unranked_at tables new same) (unranked_spare tables new same) (λ bound. let long = unranked_length tables new same in omega arith) (λ id slot. refl) (omega arith)
+
 -- there is room for one more mark of a session that is there
 pub reserved_sound : (tables new : List SessionEntries) (hold : ℕ → ℕ → Option Hold) (spare more room s : ℕ) → IsSound tables hold spare room → s < length tables
-    → new ≡ slice_set tables s (record { entries = (slice_index_or tables s no_entries).entries; spare = (slice_index_or tables s no_entries).spare + 1 })
+    → new ≡ slice_set tables s (with_room (slice_index_or tables s no_entries))
     → more ≡ spare + 1 → more ≤ room → IsSound new hold more room
 reserved_sound tables new hold spare more room s sound there made is fits =
-    let roomier : SessionEntries = record { entries = (slice_index_or tables s no_entries).entries; spare = (slice_index_or tables s no_entries).spare + 1 } in
+    let roomier : SessionEntries = with_room (slice_index_or tables s no_entries) in
     let same : (t : ℕ) → (slice_index_or new t no_entries).entries ≡ (slice_index_or tables t no_entries).entries = λ t. elim (cases_eq t s) [
       | inl e ↦ ap (λ x. (slice_index_or x t no_entries).entries) made ∙ (let P : ℕ → Type 0 = λ n. (slice_index_or (slice_set tables s roomier) n no_entries).entries ≡ (slice_index_or tables n no_entries).entries in subst P (sym e) (ap (λ x. x.entries) (get_or-set_same tables s roomier no_entries there)))
       | inr ne ↦ ap (λ x. (slice_index_or x t no_entries).entries) made ∙ ap (λ x. x.entries) (get_or-set_other tables s t roomier no_entries ne)
@@ -228,8 +224,8 @@ reserved_sound tables new hold spare more room s sound there made is fits =
       fits = fits;
     }
 
-pub reserved_told : (tables before new : List SessionEntries) (s : ℕ) → ((t : ℕ) → slice_index_or tables t no_entries ≡ slice_index_or before t no_entries) → s < length tables
-    → new ≡ slice_set tables s (record { entries = (slice_index_or tables s no_entries).entries; spare = (slice_index_or tables s no_entries).spare + 1 })
+pub reserved_told : (tables before new : List SessionEntries) (s : ℕ) → ((t : ℕ) → unranked (slice_index_or tables t no_entries) ≡ unranked (slice_index_or before t no_entries)) → s < length tables
+    → new ≡ slice_set tables s (with_room (slice_index_or tables s no_entries))
     → (spare_of (map shown new) s ≡ spare_of (map shown before) s + 1) × SameMarks (map shown before) (map shown new) × ChangesOnly (map shown before) (map shown new) s
 reserved_told tables before new s same there made =
     let is : map shown new ≡ slice_set (map shown tables) s (record { marks = marks_of (map shown tables) s; spare = spare_of (map shown tables) s + 1 }) =
@@ -246,13 +242,6 @@ reserved_told tables before new s same there made =
       ],
       record { marks = λ t ne. told.2.marks t ne ∙ marks t; spare = λ t ne. told.2.spare t ne ∙ spare t },
     )
-
-pub none_everywhere : (group : Group) (tables : List SessionEntries) → ((k : ℕ) → k < length tables → has_group group (present (slice_index_or tables k no_entries).entries) ≡ false)
-    → (s : ℕ) → has_group group (marks_of (map shown tables) s) ≡ false
-none_everywhere group tables none s = ap (has_group group) (marks_at tables s) ∙ elim (cases_lt s (length tables)) [
-  | inl below ↦ none s below
-  | inr past ↦ ap (λ t. has_group group (present t.entries)) (get_or_past tables s no_entries past)
-]
 
 pub given : {T E : Type 0} (r : Result T E) {P : Type 0} → P → OnErr r P
 given (Ok x) p = tt

@@ -6,16 +6,13 @@ use Rattle.std.proofs.lemmas.List.{get_or-set_same, get_or-set_other, get_or_pas
 use Rattle.std.proofs.Math.Seq.{get_or-append_seam}
 use Rattle.std.proofs.Math.ListN.{get_or-map}
 use Rattle.row_locks.specs.Marks.{no_marks, marks_of, spare_of, is_on, has_slot, has_removed, kept_beside, HasSlot, IsFreeSlot}
-use Rattle.row_locks.specs.Entries.{SessionEntries, no_entries, shown, present, entry_at, mark_at, is_same_slot}
+use Rattle.row_locks.specs.Entries.{SessionEntries, no_entries, shown, present, entry_at, mark_at, is_same_slot, with_mark, with_entry}
 use Rattle.row_locks.specs.Slots.{IsSlotIndex}
 use Rattle.row_locks.specs.declared.mark.Mark.{Mark}
 use Rattle.row_locks.specs.declared.slots.Hold.{Hold}
 use Rattle.row_locks.proofs.EntryLemmas.{any_at, place_of, IsOnly, only_one}
 use Rattle.row_locks.proofs.IndexLemmas.{within, kept_id, kept_slot, on_it, its_slot}
 use Rattle.row_locks.proofs.SlotLemmas.{same_key, key_is}
-
-pub entries_of : List SessionEntries → ℕ → List (Option Mark)
-entries_of tables s = (slice_index_or tables s no_entries).entries
 
 pub shown_at : (tables : List SessionEntries) (s : ℕ) → slice_index_or (map shown tables) s no_marks ≡ shown (slice_index_or tables s no_entries)
 shown_at tables s = get_or-map shown tables s no_entries
@@ -141,34 +138,38 @@ own_removed tables hold id slot s index = by (hold id slot) refl ∙ ap (has_rem
           ∙ sym (off (ap (λ h. option_map_or (λ it. it.session == s) h false) is ∙ other))
     ]
 
+-- what stands beside an item that was put last
+pub beside_last : {X : Type 0} (xs : List (Option X)) (x : Option X) (k : ℕ) → k ≢ length xs → slice_index_or (xs ++ x ∷ []) k None ≡ slice_index_or xs k None
+beside_last xs x k ne = elim (cases_lt k (length xs)) [
+  | inl below ↦ get_or_append_left xs (x ∷ []) None k below
+  | inr past ↦
+      let far : length (xs ++ x ∷ []) ≤ k = omega (arith, length-append xs (x ∷ [])) in
+      get_or_past (xs ++ x ∷ []) k None far ∙ sym (get_or_past xs k None past)
+]
+
 -- the tables differ in what stands at one place
 pub record Changes (old new : List SessionEntries) (s at : ℕ) (e : Option Mark) : Type 0 where
   pub here : mark_at new s at ≡ e
   pub beside : (k : ℕ) → k ≢ at → mark_at new s k ≡ mark_at old s k
   pub others : (t k : ℕ) → t ≢ s → mark_at new t k ≡ mark_at old t k
 
-pub pushed_at : (tables : List SessionEntries) (s spare : ℕ) (m : Mark) → s < length tables
-    → Changes tables (slice_set tables s (record { entries = (slice_index_or tables s no_entries).entries ++ Some m ∷ []; spare = spare })) s (length (slice_index_or tables s no_entries).entries) (Some m)
-pushed_at tables s spare m there =
+pub pushed_at : (tables : List SessionEntries) (s : ℕ) (m : Mark) (rank : Option ℕ) → s < length tables
+    → Changes tables (slice_set tables s (with_mark (slice_index_or tables s no_entries) m rank)) s (length (slice_index_or tables s no_entries).entries) (Some m)
+pushed_at tables s m rank there =
     let es = (slice_index_or tables s no_entries).entries in
-    let put : SessionEntries = record { entries = es ++ Some m ∷ []; spare = spare } in
+    let put : SessionEntries = with_mark (slice_index_or tables s no_entries) m rank in
     let own : (slice_index_or (slice_set tables s put) s no_entries).entries ≡ es ++ Some m ∷ [] = ap (λ t. t.entries) (get_or-set_same tables s put no_entries there) in
     record {
       here = ap (λ xs. entry_at xs (length es)) own ∙ get_or-append_seam es (Some m) [] None;
-      beside = λ k ne. ap (λ xs. entry_at xs k) own ∙ elim (cases_lt k (length es)) [
-        | inl below ↦ get_or_append_left es (Some m ∷ []) None k below
-        | inr past ↦
-            let far : length (es ++ Some m ∷ []) ≤ k = omega (arith, length-append es (Some m ∷ [])) in
-            get_or_past (es ++ Some m ∷ []) k None far ∙ sym (get_or_past es k None past)
-      ];
+      beside = λ k ne. ap (λ xs. entry_at xs k) own ∙ beside_last es (Some m) k ne;
       others = λ t k ne. ap (λ x. entry_at x.entries k) (get_or-set_other tables s t put no_entries ne);
     }
 
 pub set_at : (tables : List SessionEntries) (s at : ℕ) (e : Option Mark) → s < length tables → at < length (slice_index_or tables s no_entries).entries
-    → Changes tables (slice_set tables s (record { entries = slice_set (slice_index_or tables s no_entries).entries at e; spare = (slice_index_or tables s no_entries).spare })) s at e
+    → Changes tables (slice_set tables s (with_entry (slice_index_or tables s no_entries) at e)) s at e
 set_at tables s at e there inside =
     let es = (slice_index_or tables s no_entries).entries in
-    let put : SessionEntries = record { entries = slice_set es at e; spare = (slice_index_or tables s no_entries).spare } in
+    let put : SessionEntries = with_entry (slice_index_or tables s no_entries) at e in
     let own : (slice_index_or (slice_set tables s put) s no_entries).entries ≡ slice_set es at e = ap (λ t. t.entries) (get_or-set_same tables s put no_entries there) in
     record {
       here = ap (λ xs. entry_at xs at) own ∙ get_or-set_same es at e None inside;
@@ -367,20 +368,14 @@ removed_kept mark own on = rw on refl
 pub index_kept : (tables : List SessionEntries) (hold now : ℕ → ℕ → Option Hold) (mark : Mark) (it : Hold) → IsSlotIndex tables hold → hold mark.id mark.slot ≡ Some it
     → ((id slot : ℕ) → now id slot ≡ cond (is_same_slot (mark.id, mark.slot) (id, slot)) (Some (record { session = it.session; at = it.at; removed = it.removed || mark.removed })) (hold id slot))
     → IsSlotIndex (
-    slice_set tables it.session (
-    record {
-      entries = slice_set (slice_index_or tables it.session no_entries).entries it.at (option_map (kept_beside mark) (entry_at (slice_index_or tables it.session no_entries).entries it.at));
-      spare = (slice_index_or tables it.session no_entries).spare;
-    }
-    )
+    slice_set tables it.session (with_entry (slice_index_or tables it.session no_entries) it.at (option_map (kept_beside mark) (entry_at (slice_index_or tables it.session no_entries).entries it.at)))
     ) now
 index_kept tables hold now mark it index held told =
     let only = only_there tables hold mark.id mark.slot it index held in
     let m = only.0 in
     let new = kept_beside mark m in
     let there = held_there tables hold mark.id mark.slot it index held in
-    let es = (slice_index_or tables it.session no_entries).entries in
-    let P : Option Mark → Type 0 = λ e. IsSlotIndex (slice_set tables it.session (record { entries = slice_set es it.at (option_map (kept_beside mark) e); spare = (slice_index_or tables it.session no_entries).spare })) now in
+    let P : Option Mark → Type 0 = λ e. IsSlotIndex (slice_set tables it.session (with_entry (slice_index_or tables it.session no_entries) it.at (option_map (kept_beside mark) e))) now in
     let mine = its_slot m mark.id mark.slot only.1.passes in
     let id_is : new.id ≡ mark.id = kept_id mark m ∙ mine.0 in
     let slot_is : new.slot ≡ mark.slot = kept_slot mark m ∙ mine.1 in

@@ -1,10 +1,7 @@
--- How a session's marks are kept: each at the place where it was taken, with an index of slots and one of groups' numbers.
-use Rattle.std.specs.Prelude.{◌≡◌, ◌==◌, ◌&&◌, ℕ, List, [], ◌∷◌, Bool, false, Option, Some, None, if◌then◌else◌, slice_index_or, count_by, sum_by, nat_eq}
-use Rattle.std.specs.Option.{option_map_or}
+-- How a session's marks are kept: each at the place where it was taken, with its rank in the index of groups.
+use Rattle.std.specs.Prelude.{◌+◌, ◌-◌, ◌&&◌, ℕ, List, [], ◌∷◌, ◌++◌, Bool, Option, Some, None, slice_index_or, slice_set, sum_by, nat_eq}
 use Rattle.row_locks.specs.Marks.{SessionMarks}
-use Rattle.std.specs.HashMap.{HashMap, get}
 use Rattle.row_locks.specs.declared.mark.Mark.{Mark}
-use Rattle.row_locks.specs.declared.numbers.NumberHold.{NumberHold}
 
 -- the marks that are still there, in the order taken
 abbrev pub present : List (Option Mark) → List Mark
@@ -15,20 +12,37 @@ present (Some mark ∷ entries) = mark ∷ present entries
 abbrev pub entry_at : List (Option Mark) → ℕ → Option Mark
 entry_at entries at = slice_index_or entries at None
 
--- the mark is of a group with this number
-abbrev pub is_numbered : ℕ → Mark → Bool
-is_numbered number mark = option_map_or (λ group. group.number == number) mark.group false
-
 abbrev pub is_same_slot : ℕ × ℕ → ℕ × ℕ → Bool
 is_same_slot a b = nat_eq a.0 b.0 && nat_eq a.1 b.1
 
--- the entries of a session, and for how many more there is room
+-- the entries of a session, their ranks, and for how many more there is room
 pub record SessionEntries : Type 0 where
   pub entries : List (Option Mark)
+  pub ranks : List (Option ℕ)
   pub spare : ℕ
 
 abbrev pub no_entries : SessionEntries
-no_entries = record { entries = []; spare = 0 }
+no_entries = record { entries = []; ranks = []; spare = 0 }
+
+-- with one more mark, in the room for it
+abbrev pub with_mark : SessionEntries → Mark → Option ℕ → SessionEntries
+with_mark table mark rank = record { entries = table.entries ++ Some mark ∷ []; ranks = table.ranks ++ rank ∷ []; spare = table.spare - 1 }
+
+-- with another entry at a place
+abbrev pub with_entry : SessionEntries → ℕ → Option Mark → SessionEntries
+with_entry table at entry = record { entries = slice_set table.entries at entry; ranks = table.ranks; spare = table.spare }
+
+-- with another rank at a place
+abbrev pub with_rank : SessionEntries → ℕ → Option ℕ → SessionEntries
+with_rank table at rank = record { entries = table.entries; ranks = slice_set table.ranks at rank; spare = table.spare }
+
+-- with room for one more mark
+abbrev pub with_room : SessionEntries → SessionEntries
+with_room table = record { entries = table.entries; ranks = table.ranks; spare = table.spare + 1 }
+
+-- the entries and the room alone
+abbrev pub unranked : SessionEntries → SessionEntries
+unranked table = record { entries = table.entries; ranks = []; spare = table.spare }
 
 -- what is seen of them
 abbrev pub shown : SessionEntries → SessionMarks
@@ -38,18 +52,10 @@ shown table = record { marks = present table.entries; spare = table.spare }
 abbrev pub all_spare : List SessionEntries → ℕ
 all_spare tables = sum_by (λ table. table.spare) tables
 
+-- the entries of a session
+abbrev pub entries_of : List SessionEntries → ℕ → List (Option Mark)
+entries_of tables session = (slice_index_or tables session no_entries).entries
+
 -- the mark of a session at a place
 abbrev pub mark_at : List SessionEntries → ℕ → ℕ → Option Mark
-mark_at tables session at = entry_at (slice_index_or tables session no_entries).entries at
-
--- the index counts the marks of each number
-abbrev pub IsNumberIndex : List (Option Mark) → (ℕ → ℕ) → Type 0
-IsNumberIndex entries count = (number : ℕ) → count number ≡ count_by (is_numbered number) (present entries)
-
--- how many marks of the number the index counts
-abbrev pub count_of : {S : Type 0} → HashMap ℕ NumberHold S → ℕ → ℕ
-count_of numbers number = option_map_or (λ hold. hold.count) (get nat_eq numbers number) 0
-
--- one, where the mark is of a group with this number
-abbrev pub one_if_numbered : ℕ → Mark → ℕ
-one_if_numbered number mark = if is_numbered number mark then 1 else 0
+mark_at tables session at = entry_at (entries_of tables session) at

@@ -1,21 +1,21 @@
 // The places of a session's marks.
-ghost use Rattle.std.specs.Prelude.{◌≡◌, ◌<◌, ◌≤◌, ◌+◌, Some, None, IsSome, [], ◌∷◌, ◌++◌, length, slice_set, vec_len, vec_capacity, option_copied, false};
+ghost use Rattle.std.specs.Prelude.{◌≡◌, ◌<◌, ◌≤◌, ◌+◌, [], ◌∷◌, ◌++◌, length, slice_set, vec_len, vec_capacity, option_copied, false};
 ghost use Rattle.std.specs.Option.{option_map, option_map_or};
-ghost use Rattle.row_locks.specs.Marks.{kept_beside, is_in_group, has_group};
+ghost use Rattle.row_locks.specs.Marks.{kept_beside, is_in_group};
 ghost use Rattle.row_locks.specs.Entries.{present, entry_at};
+ghost use Rattle.row_locks.specs.Groups.{group_in, has_names};
 
 use crate::mark::{Mark, is_in_group, is_on};
 use payload_records::Name;
-use std::mem;
 
-/// Puts a mark last, where there is room.
-pub(crate) fn put_last(entries: &mut Vec<Option<Mark>>, mark: Mark)
-    requires { vec_len entries.old < vec_capacity entries.old }
-    ensures items { entries.new.items ≡ entries.old.items ++ Some mark ∷ [] }
-    ensures len { vec_len entries.new ≡ vec_len entries.old + 1 }
-    ensures capacity { vec_capacity entries.old ≤ vec_capacity entries.new }
+/// Puts an item last, where there is room.
+pub(crate) fn put_last<T: Drop>(items: &mut Vec<T>, item: T)
+    requires { vec_len items.old < vec_capacity items.old }
+    ensures items { items.new.items ≡ items.old.items ++ item ∷ [] }
+    ensures len { vec_len items.new ≡ vec_len items.old + 1 }
+    ensures capacity { vec_capacity items.old ≤ vec_capacity items.new }
 {
-    let Ok(()) = entries.push(Some(mark)) else {
+    let Ok(()) = items.push(item) else {
         unreachable!()
     };
 }
@@ -29,21 +29,6 @@ pub(crate) fn keep_at(entries: &mut Vec<Option<Mark>>, at: usize, new: &Mark)
 {
     if let Some(own) = &mut entries[at] {
         keep_beside(new, own);
-    }
-}
-
-/// Takes the mark at a place out.
-pub(crate) fn take_at(entries: &mut Vec<Option<Mark>>, at: usize) -> Mark
-    requires within { at < length entries.old.items }
-    requires present { IsSome (entry_at entries.old.items at) }
-    ensures mark { entry_at entries.old.items at ≡ Some result }
-    ensures rest { entries.new.items ≡ slice_set entries.old.items at None }
-    ensures len { vec_len entries.new ≡ vec_len entries.old }
-    ensures capacity { vec_capacity entries.old ≤ vec_capacity entries.new }
-{
-    match mem::replace(&mut entries[at], None) {
-        None => unreachable!(),
-        Some(mark) => mark,
     }
 }
 
@@ -83,21 +68,28 @@ pub(crate) fn is_entry_in_group(
     }
 }
 
-/// Whether a mark is in the group.
-pub(crate) fn has_entry_in_group(
+/// Whether the mark at a place is in a group with those names.
+pub(crate) fn has_entry_names(
     entries: &[Option<Mark>],
+    at: usize,
     queue: &Name,
-    number: u64,
     consumer: Option<&Name>,
 ) -> bool
-    ensures { result ≡ has_group (record { queue = queue.now; number = number; consumer = option_copied consumer.entry }) (present entries.now) }
+    ensures { result ≡ option_map_or (has_names queue.now (option_copied consumer.entry)) (group_in (entry_at entries.now at)) false }
 {
-    for at in 0..entries.len() {
-        if is_entry_in_group(entries, at, queue, number, consumer) {
-            return true;
-        }
+    match entries.get(at) {
+        Some(Some(mark)) => has_names(mark, queue, consumer),
+        _ => false,
     }
-    false
+}
+
+fn has_names(mark: &Mark, queue: &Name, consumer: Option<&Name>) -> bool
+    ensures { result ≡ option_map_or (has_names queue.now (option_copied consumer.entry)) mark.now.group false }
+{
+    match &mark.group {
+        None => false,
+        Some(group) => is_in_group(mark, queue, group.number, consumer),
+    }
 }
 
 fn keep_beside(new: &Mark, own: &mut Mark)

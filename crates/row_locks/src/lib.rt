@@ -1,10 +1,12 @@
 //! Marks of sessions on the slots of messages.
 #![tactic(auto)]
 
+mod classes;
 mod entries;
+mod groups;
+mod holds;
 mod locks;
 mod mark;
-mod numbers;
 mod session_table;
 mod slots;
 mod tables;

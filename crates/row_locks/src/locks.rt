@@ -4,10 +4,15 @@ ghost use Rattle.std.specs.Option.{option_map};
 ghost use Rattle.row_locks.specs.Marks.{marks_of, spare_of, no_marks, has_slot, has_removed, kept_beside, taken, released, IsHolder, IsFreeSlot, IsFreeGroup, HasSlot, HasGroup, IsOtherHolder, IsFreeFor, NoOtherHasSlot, NoOtherHasGroup, SameMarks, ChangesOnly, AreHeldOnce};
 ghost use Rattle.row_locks.specs.declared.locks.LockFault.TheVariants.{Held, Memory};
 
+use crate::classes::Place;
+use crate::groups::GroupIndex;
 use crate::mark::{Group, Mark};
 use crate::session_table::SessionTable;
 use crate::slots::SlotIndex;
-use crate::tables::{keep_at, prepare, put_at, release_all_at, release_at, reserve_at, spare_at};
+use crate::tables::{
+    find_holder, keep_at, leave_group, leave_groups, prepare, put_at, release_all_at, release_at,
+    reserve_at, spare_at,
+};
 use payload_records::{List, Name};
 use std::alloc::{AllocError, Global};
 use std::marker::Model;
@@ -18,6 +23,7 @@ use std::marker::Model;
 pub struct RowLocks {
     sessions: Vec<SessionTable>,
     slots: SlotIndex,
+    groups: GroupIndex,
     spare: usize,
     alloc: Global,
 }
@@ -27,12 +33,13 @@ impl Model for RowLocks {
     ghost use Rattle.row_locks.specs.Marks.{SessionMarks};
     ghost use Rattle.row_locks.specs.Entries.{shown};
     ghost use Rattle.row_locks.specs.Slots.{hold_of, room_of, IsSound};
+    ghost use Rattle.row_locks.specs.Groups.{AreGrouped};
 
     ghost Value = { Sequence SessionMarks };
 
     ghost view = { λ l. map shown l.sessions.items };
 
-    ghost invariant = { λ l. IsSound l.sessions.items (hold_of l.slots) l.spare (room_of l.slots) };
+    ghost invariant = { λ l. IsSound l.sessions.items (hold_of l.slots) l.spare (room_of l.slots) × AreGrouped l.sessions.items l.groups l.spare };
 }
 
 /// Why a mark was not taken.
@@ -60,6 +67,7 @@ impl RowLocks {
         RowLocks {
             sessions: Vec::new(alloc),
             slots: SlotIndex::new(alloc),
+            groups: GroupIndex::new(alloc),
             spare: 0,
             alloc,
         }
@@ -78,6 +86,7 @@ impl RowLocks {
         prepare(
             &mut self.sessions,
             &mut self.slots,
+            &mut self.groups,
             session,
             more,
             self.alloc,
@@ -150,6 +159,11 @@ impl RowLocks {
         ensures rest { ChangesOnly self.old self.new session }
     {
         if let Some(hold) = self.slots.find_own(session, id, slot) {
+            let place = Place {
+                session: hold.session,
+                at: hold.at,
+            };
+            leave_group(&mut self.sessions, &mut self.groups, place);
             release_at(&mut self.sessions, &mut self.slots, hold, id, slot);
         }
     }
@@ -163,6 +177,7 @@ impl RowLocks {
     {
         if (session as usize) < self.sessions.len() {
             self.spare -= spare_at(&self.sessions, session as usize);
+            leave_groups(&mut self.sessions, &mut self.groups, session);
             release_all_at(&mut self.sessions, &mut self.slots, session as usize)
         } else {
             List::new(self.alloc)
@@ -239,7 +254,13 @@ impl RowLocks {
         ensures room { spare_of self.new session ≡ spare_of self.old session - 1 }
         ensures rest { ChangesOnly self.old self.new session }
     {
-        put_at(&mut self.sessions, &mut self.slots, session, mark);
+        put_at(
+            &mut self.sessions,
+            &mut self.slots,
+            &mut self.groups,
+            session,
+            mark,
+        );
         self.spare -= 1;
     }
 
@@ -268,12 +289,7 @@ impl RowLocks {
         ensures some { let group = Some (record { queue = queue.now; number = number; consumer = option_copied consumer.entry }) in IfSome result (HasGroup self.now group) }
         ensures none { let group = Some (record { queue = queue.now; number = number; consumer = option_copied consumer.entry }) in IfNone result (IsFreeGroup self.now group) }
     {
-        for (session, table) in self.sessions.iter().enumerate() {
-            if table.has_group(queue, number, consumer) {
-                return Some(session as u32);
-            }
-        }
-        None
+        find_holder(&self.sessions, &self.groups, queue, number, consumer)
     }
 
     fn has_own(&self, session: u32, id: u64, slot: u32) -> bool

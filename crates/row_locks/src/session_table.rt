@@ -1,56 +1,55 @@
 // The marks of one session.
-ghost use Rattle.std.specs.Prelude.{◌≡◌, ◌<◌, ◌-◌, ◌+◌, Some, None, IsSome, [], ◌∷◌, ◌++◌, length, slice_set, OnOk, OnErr, option_copied};
-ghost use Rattle.std.specs.Option.{option_map};
-ghost use Rattle.row_locks.specs.Marks.{has_group, kept_beside};
-ghost use Rattle.row_locks.specs.Entries.{present, entry_at};
+ghost use Rattle.std.specs.Prelude.{◌≡◌, ◌<◌, [], Some, None, OnOk, OnErr, length, slice_index_or, option_copied, false};
+ghost use Rattle.std.specs.Option.{option_map, option_map_or};
+ghost use Rattle.row_locks.specs.Marks.{is_in_group, kept_beside};
+ghost use Rattle.row_locks.specs.Entries.{present, entry_at, no_entries, with_mark, with_entry, with_rank, with_room};
+ghost use Rattle.row_locks.specs.Groups.{key_of, group_in, has_names};
 
-use crate::entries::{has_entry_in_group, is_entry_in_group, keep_at, moved, put_last, take_at};
+use crate::entries::{has_entry_names, is_entry_in_group, keep_at, moved, put_last};
+use crate::groups::{GroupKey, mark_key};
 use crate::mark::Mark;
-use crate::numbers::{NumberHold, count_in, count_out};
 use payload_records::Name;
 use std::alloc::{AllocError, Global};
-use std::collections::HashMap;
 use std::marker::Model;
 use std::mem;
 
-/// The marks of one session in the order taken, with room for more. A mark stays at its place until all are freed. Of a
-/// number the table knows how many marks there are, and where one may be.
+/// The marks of one session in the order taken, with room for more. A mark stays at its place until all are freed, and its
+/// rank in the index by group, where that has it, stands at the same place.
 #[derive(Drop)]
 pub(crate) struct SessionTable {
     entries: Vec<Option<Mark>>,
+    ranks: Vec<Option<usize>>,
     room: Vec<Mark>,
-    numbers: HashMap<u64, NumberHold>,
     spare: usize,
 }
 
 impl Model for SessionTable {
     ghost use Rattle.std.specs.Prelude.{◌≡◌, ◌+◌, ◌<◌, ◌≤◌, ◌^◌, [], vec_len, vec_capacity};
-    ghost use Rattle.std.specs.HashMap.{spare as spare_in};
-    ghost use Rattle.row_locks.specs.Entries.{SessionEntries, count_of, IsNumberIndex};
+    ghost use Rattle.row_locks.specs.Entries.{SessionEntries};
 
     ghost Value = { SessionEntries };
 
-    ghost view = { λ t. record { entries = t.entries.items; spare = t.spare } };
+    ghost view = { λ t. record { entries = t.entries.items; ranks = t.ranks.items; spare = t.spare } };
 
-    ghost invariant = { λ t. (vec_len t.entries + t.spare ≤ vec_capacity t.entries) × (t.room.items ≡ []) × (vec_len t.entries + t.spare ≤ vec_capacity t.room) × (t.spare ≤ spare_in t.numbers) × IsNumberIndex t.entries.items (count_of t.numbers) × (vec_len t.entries + t.spare < 2 ^ 32) };
+    ghost invariant = { λ t. (vec_len t.entries + t.spare ≤ vec_capacity t.entries) × (vec_len t.ranks ≡ vec_len t.entries) × (vec_len t.entries + t.spare ≤ vec_capacity t.ranks) × (t.room.items ≡ []) × (vec_len t.entries + t.spare ≤ vec_capacity t.room) × (vec_len t.entries + t.spare < 2 ^ 32) };
 }
 
 impl SessionTable {
     /// A session without marks. It takes no memory.
     pub(crate) fn new(alloc: Global) -> SessionTable
-        ensures { result ≡ record { entries = []; spare = 0 } }
+        ensures { result ≡ no_entries }
     {
         SessionTable {
             entries: Vec::new(alloc),
+            ranks: Vec::new(alloc),
             room: Vec::new(alloc),
-            numbers: HashMap::new(alloc),
             spare: 0,
         }
     }
 
     /// Makes room for one more mark. There is none past 2^32 places.
     pub(crate) fn reserve(&mut self) -> Result<(), AllocError>
-        ensures ok { OnOk result (self.new ≡ record self.old { spare = self.old.spare + 1 }) }
+        ensures ok { OnOk result (self.new ≡ with_room self.old) }
         ensures err { OnErr result (self.new ≡ self.old) }
     {
         let more = self.spare + 1;
@@ -58,20 +57,20 @@ impl SessionTable {
             return Err(AllocError);
         }
         self.entries.reserve(more)?;
+        self.ranks.reserve(more)?;
         self.room.reserve(self.entries.len() + more)?;
-        self.numbers.reserve(more)?;
         self.spare = more;
         Ok(())
     }
 
-    /// Puts a mark last, into the room for it. It takes no memory.
-    pub(crate) fn put(&mut self, mark: Mark)
+    /// Puts a mark last, into the room for it, with its rank. It takes no memory.
+    pub(crate) fn put(&mut self, mark: Mark, rank: Option<usize>)
         requires { 0 < self.old.spare }
-        ensures { self.new ≡ record { entries = self.old.entries ++ Some mark ∷ []; spare = self.old.spare - 1 } }
+        ensures put { self.new ≡ with_mark self.old mark rank }
+        ensures whole { length self.old.ranks ≡ length self.old.entries }
     {
-        let at = self.entries.len();
-        count_in(&mut self.numbers, &mark, at);
-        put_last(&mut self.entries, mark);
+        put_last(&mut self.entries, Some(mark));
+        put_last(&mut self.ranks, rank);
         self.spare -= 1;
     }
 
@@ -81,54 +80,87 @@ impl SessionTable {
         self.spare
     }
 
-    /// The place at which the next mark comes to stand, where there is room for it.
-    pub(crate) fn next_place(&self) -> u32
-        requires { 0 < self.now.spare }
+    /// How many places there are.
+    pub(crate) fn len(&self) -> u32
         ensures { result ≡ length self.now.entries }
     {
         self.entries.len() as u32
     }
 
-    pub(crate) fn has_group(&self, queue: &Name, number: u64, consumer: Option<&Name>) -> bool
-        ensures { result ≡ has_group (record { queue = queue.now; number = number; consumer = option_copied consumer.entry }) (present self.now.entries) }
+    /// The key of the group of the mark at a place.
+    pub(crate) fn key_at(&self, at: usize) -> Option<GroupKey>
+        ensures { result ≡ option_map key_of (group_in (entry_at self.now.entries at)) }
     {
-        match self.numbers.get(&number) {
-            None => false,
-            Some(hold) => {
-                let entries = self.entries.as_slice();
-                is_entry_in_group(entries, hold.at, queue, number, consumer)
-                    || has_entry_in_group(entries, queue, number, consumer)
-            }
+        match self.entries.get(at) {
+            Some(Some(mark)) => mark_key(mark),
+            _ => None,
         }
+    }
+
+    /// Whether the mark at a place is in the group.
+    pub(crate) fn is_in_group_at(
+        &self,
+        at: usize,
+        queue: &Name,
+        number: u64,
+        consumer: Option<&Name>,
+    ) -> bool
+        ensures { result ≡ option_map_or (is_in_group (record { queue = queue.now; number = number; consumer = option_copied consumer.entry })) (entry_at self.now.entries at) false }
+    {
+        is_entry_in_group(self.entries.as_slice(), at, queue, number, consumer)
+    }
+
+    /// Whether the mark at a place is in a group with those names.
+    pub(crate) fn has_names_at(&self, at: usize, queue: &Name, consumer: Option<&Name>) -> bool
+        ensures { result ≡ option_map_or (has_names queue.now (option_copied consumer.entry)) (group_in (entry_at self.now.entries at)) false }
+    {
+        has_entry_names(self.entries.as_slice(), at, queue, consumer)
+    }
+
+    /// Takes the rank of the mark at a place away.
+    pub(crate) fn take_rank(&mut self, at: usize) -> Option<usize>
+        requires { at < length self.old.entries }
+        ensures rank { result ≡ slice_index_or self.old.ranks at None }
+        ensures rest { self.new ≡ with_rank self.old at None }
+        ensures whole { length self.old.ranks ≡ length self.old.entries }
+    {
+        mem::replace(&mut self.ranks[at], None)
+    }
+
+    /// Gives the mark at a place another rank.
+    pub(crate) fn set_rank(&mut self, at: usize, rank: usize)
+        requires { at < length self.old.entries }
+        ensures rest { self.new ≡ with_rank self.old at (Some rank) }
+        ensures whole { length self.old.ranks ≡ length self.old.entries }
+    {
+        self.ranks[at] = Some(rank);
     }
 
     /// Makes the mark at a place removed where the new one is.
     pub(crate) fn keep_at(&mut self, at: usize, new: &Mark)
         requires { at < length self.old.entries }
-        ensures { self.new ≡ record self.old { entries = slice_set self.old.entries at (option_map (kept_beside new.now) (entry_at self.old.entries at)) } }
+        ensures { self.new ≡ with_entry self.old at (option_map (kept_beside new.now) (entry_at self.old.entries at)) }
     {
         keep_at(&mut self.entries, at, new);
     }
 
     /// Drops the mark at a place. It takes no memory.
     pub(crate) fn release_at(&mut self, at: usize)
-        requires within { at < length self.old.entries }
-        requires present { IsSome (entry_at self.old.entries at) }
-        ensures { self.new ≡ record self.old { entries = slice_set self.old.entries at None } }
+        requires { at < length self.old.entries }
+        ensures { self.new ≡ with_entry self.old at None }
     {
-        let mark = take_at(&mut self.entries, at);
-        count_out(&mut self.numbers, &mark, at);
+        self.entries[at] = None;
     }
 
     /// Takes all marks out, in their order. It takes no memory.
     pub(crate) fn release_all(&mut self) -> Vec<Mark>
         ensures all { result.items ≡ present self.old.entries }
-        ensures none { self.new ≡ record { entries = []; spare = 0 } }
+        ensures none { self.new ≡ no_entries }
     {
         let alloc = *self.entries.allocator();
         let entries = mem::replace(&mut self.entries, Vec::new(alloc));
         let room = mem::replace(&mut self.room, Vec::new(alloc));
-        self.numbers.clear();
+        self.ranks = Vec::new(alloc);
         self.spare = 0;
         moved(entries, room)
     }

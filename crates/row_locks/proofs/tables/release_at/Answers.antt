@@ -1,6 +1,5 @@
-use Rattle.std.proofs.Common.{Option, None, IsSome, refl, sym, subst}
+use Rattle.std.proofs.Common.{None}
 use Rattle.row_locks.specs.Slots.{hold_of}
-use Rattle.row_locks.specs.declared.mark.Mark.{Mark}
 use Rattle.row_locks.proofs.TableLemmas.{held_there, set_at, index_taken}
 use Rattle.row_locks.proofs.tables.release_at.Goals as goal
 
@@ -9,11 +8,6 @@ release_entry_at-requires-clause-there c = (held_there c.args.tables.now.items (
 
 pub release_entry_at-requires-clause-within : goal.release_entry_at-requires-clause-within
 release_entry_at-requires-clause-within c = (held_there c.args.tables.now.items (hold_of c.args.slots.now) c.args.id c.args.slot c.args.hold c.requires.index c.requires.held).1
-
-pub release_entry_at-requires-clause-present : goal.release_entry_at-requires-clause-present
-release_entry_at-requires-clause-present c =
-    let r = c.requires.index.real c.args.id c.args.slot c.args.hold c.requires.held in
-    let P : Option Mark → Type 0 = λ e. IsSome e in subst P (sym r.1) refl
 
 pub returns-clause-index : goal.returns-clause-index
 returns-clause-index c =

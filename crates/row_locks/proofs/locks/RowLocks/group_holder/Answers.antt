@@ -1,14 +1,19 @@
-use Rattle.std.proofs.Common.{◌≡◌, ℕ, ◌<◌, length, slice_index_or, false, option_copied, arith}
-use Rattle.row_locks.specs.Entries.{no_entries, present}
-use Rattle.row_locks.specs.Marks.{has_group}
+use Rattle.std.proofs.Common.{option_copied}
+use Rattle.row_locks.specs.declared.classes.Place.{Place}
 use Rattle.row_locks.specs.declared.mark.Group.{Group}
-use Rattle.row_locks.proofs.SoundLemmas.{none_everywhere}
+use Rattle.row_locks.proofs.GroupedLemmas.{none_everywhere, somewhere}
+use Rattle.row_locks.proofs.HolderLemmas.{if_some_map}
+use Rattle.row_locks.proofs.SessionLemmas.{if_none_map}
 use Rattle.row_locks.proofs.locks.RowLocks.group_holder.Goals as goal
+
+pub returns-clause-some : goal.returns-clause-some
+returns-clause-some c =
+    let tables = c.self.inside.sessions.items in
+    let group : Group = record { queue = c.args.queue.now; number = c.args.number; consumer = option_copied c.args.consumer } in
+    rw (← c.self.view_is) (if_some_map c.find_holder.result (λ s it. let place : Place = record { session = s; at = it.0 } in somewhere tables group place it.1) c.find_holder.ensures.some)
 
 pub returns-clause-none : goal.returns-clause-none
 returns-clause-none c =
-    let l = c.self.inside in
+    let tables = c.self.inside.sessions.items in
     let group : Group = record { queue = c.args.queue.now; number = c.args.number; consumer = option_copied c.args.consumer } in
-    let none : (k : ℕ) → k < length l.sessions.items → has_group group (present (slice_index_or l.sessions.items k no_entries).entries) ≡ false =
-    rw (← c.deref-table-items.ensures.value) (λ k below. c.loop-session.invariant k (omega arith)) in
-    rw (← c.self.view_is) (none_everywhere group l.sessions.items none)
+    rw (← c.self.view_is) (if_none_map c.find_holder.result (none_everywhere tables group) c.find_holder.ensures.none)
