@@ -2,13 +2,13 @@
 ghost use Rattle.std.specs.Prelude.{◌≡◌, IfOk, OnOk, None, Some};
 ghost use Rattle.queue_rows.specs.Rows.{find_message, with_slot, changed_nth};
 ghost use Rattle.queue_rows.specs.Tables.{in_state, retried, most_retries, slot_zero, moved_to};
-ghost use Rattle.queue_rows.specs.Settling.{if_it, left_by, message_after};
+ghost use Rattle.queue_rows.specs.Settling.{if_it, left_by};
 ghost use Rattle.exception_queues.specs.Left.{left_some};
 
-use crate::lookup::find_message;
+use crate::lookup::MessageTables;
 use crate::slots::slot_index;
 use payload_records::{Copied, List, Name};
-use queue_rows::{Change, MsgRow, SlotRow, SlotState, Tables};
+use queue_rows::{Change, MsgRow, SlotRow, SlotState};
 use std::alloc::AllocError;
 
 fn set_slot_state(slots: &mut List<SlotRow>, index: usize, state: SlotState, at: u64)
@@ -164,7 +164,11 @@ fn left_by(message: MsgRow, change: &Change) -> Result<Option<MsgRow>, AllocErro
     }
 }
 
-fn left_some(message: Option<MsgRow>, change: &Change) -> Result<Option<MsgRow>, AllocError>
+/// What one more change leaves of a message that is there.
+pub(crate) fn left_some(
+    message: Option<MsgRow>,
+    change: &Change,
+) -> Result<Option<MsgRow>, AllocError>
     ensures { IfOk result (λ left. left ≡ left_some message change.now) }
 {
     match message {
@@ -173,26 +177,15 @@ fn left_some(message: Option<MsgRow>, change: &Change) -> Result<Option<MsgRow>,
     }
 }
 
-fn message_of(tables: &Tables, id: u64) -> Result<Option<MsgRow>, AllocError>
-    ensures { IfOk result (λ message. message ≡ find_message tables.now id) }
+/// A copy of the message of that number.
+pub(crate) fn message_of<T: MessageTables>(
+    tables: &T,
+    id: u64,
+) -> Result<Option<MsgRow>, AllocError>
+    ensures { IfOk result (λ message. message ≡ find_message (T.tables tables.now) id) }
 {
-    match find_message(tables, id) {
+    match tables.message(id) {
         Some(message) => Ok(Some(message.copied()?)),
         None => Ok(None),
     }
-}
-
-/// The message of that number as the changes leave it; none where it is not there, or goes.
-pub fn message_after(
-    tables: &Tables,
-    changes: &List<Change>,
-    id: u64,
-) -> Result<Option<MsgRow>, AllocError>
-    ensures { IfOk result (λ left. left ≡ message_after tables.now changes.now id) }
-{
-    let mut message = message_of(tables, id)?;
-    for change in changes {
-        message = left_some(message, change)?;
-    }
-    Ok(message)
 }

@@ -1,14 +1,14 @@
 //! What commits settle besides: which messages move to their exception queues, and which go.
 #![tactic(auto)]
 
+mod courses;
 mod left;
 mod lookup;
 mod names;
 mod settling;
 mod slots;
 
-pub use left::message_after;
-pub use lookup::{find_message, find_queue, find_table};
+pub use lookup::{MessageTables, find_queue, find_table};
 pub use settling::{exception_queue_of, settle};
 pub use slots::{is_exception, slot_of};
 

@@ -1,6 +1,7 @@
 // Looking rows up by their names.
 ghost use Rattle.std.specs.Prelude.{◌≡◌, option_copied};
 ghost use Rattle.queue_rows.specs.Rows.{find_table, find_queue, find_message};
+ghost use Rattle.queue_rows.specs.declared.tables.Tables.{Tables};
 
 use payload_records::Name;
 use queue_rows::{MsgRow, QueueRow, TableRow, Tables};
@@ -25,9 +26,28 @@ pub fn find_queue<'a>(tables: &'a Tables, name: &Name) -> Option<&'a QueueRow>
         .find(|r| r.name.as_str() == name.as_str())
 }
 
-/// The message of that number.
-pub fn find_message(tables: &Tables, id: u64) -> Option<&MsgRow>
-    ensures { option_copied result ≡ find_message tables.now id }
-{
-    tables.messages.iter().find(|m| m.id == id)
+/// Tables, and a way to find a message in them by its number.
+pub trait MessageTables {
+    ghost tables: { Self → Tables };
+
+    /// The tables. It takes no memory.
+    fn tables(&self) -> &Tables
+        ensures { result.now ≡ tables self.now };
+
+    /// The message of that number. It takes no memory.
+    fn message(&self, id: u64) -> Option<&MsgRow>
+        ensures { option_copied result ≡ find_message (tables self.now) id };
+}
+
+/// The tables themselves, where a message is found by a walk over all.
+impl MessageTables for Tables {
+    ghost tables = { λ t. t };
+
+    fn tables(&self) -> &Tables {
+        self
+    }
+
+    fn message(&self, id: u64) -> Option<&MsgRow> {
+        self.messages.iter().find(|m| m.id == id)
+    }
 }

@@ -2,16 +2,16 @@
 ghost use Rattle.std.specs.Prelude.{◌≡◌, ◌++◌, [], IfOk, OnOk, Some, None, option_copied};
 ghost use Rattle.std.specs.List.{flat_map};
 ghost use Rattle.queue_rows.specs.Settling.{is_exception_of, named_or_default, exception_queue_of, retention_of, is_lost, is_handled, is_kept_by_none, settling_of, settling, names_of, settled};
+ghost use Rattle.exception_queues.specs.Courses.{course_of, settling_by};
 
-use crate::left::message_after;
-use crate::lookup::find_queue;
-use crate::names::{last_moment, names_of};
+use crate::courses::{Course, Courses, courses_of};
+use crate::lookup::{MessageTables, find_queue};
 use crate::slots::{
     all_gone, any_expired, any_open, any_processed, is_exception, is_slot_processed,
 };
 use payload_records::{Copied, List, Name};
 use queue_rows::{Change, MsgRow, QueueRow, Tables};
-use std::alloc::AllocError;
+use std::alloc::{AllocError, Global};
 
 fn is_lost(message: &MsgRow) -> bool
     ensures { result ≡ is_lost message.now }
@@ -101,30 +101,55 @@ fn settle_message(
     Ok(())
 }
 
-// Puts behind `more` what the changes settle of the message.
-fn settle_named(
+fn settle_course(
     more: &mut List<Change>,
     tables: &Tables,
-    changes: &List<Change>,
-    id: u64,
+    course: &Course,
 ) -> Result<(), AllocError>
-    ensures { OnOk result (more.new ≡ more.old ++ settling tables.now changes.now id) }
+    ensures { OnOk result (more.new ≡ more.old ++ settling_of tables.now course.now.moment course.now.message) }
 {
-    match message_after(tables, changes, id)? {
-        Some(message) => settle_message(more, tables, &message, last_moment(changes, id)),
+    match &course.message {
+        Some(message) => settle_message(more, tables, message, course.moment),
         None => Ok(()),
     }
 }
 
-fn settlings(tables: &Tables, changes: &List<Change>) -> Result<List<Change>, AllocError>
-    ensures { IfOk result (λ more. more ≡ flat_map (settling tables.now changes.now) (names_of changes.now)) }
+fn settle_named(
+    more: &mut List<Change>,
+    tables: &Tables,
+    courses: &Courses,
+    id: u64,
+) -> Result<(), AllocError>
+    ensures { OnOk result (more.new ≡ more.old ++ settling_by tables.now (course_of courses.now id)) }
 {
-    let names = names_of(changes)?;
-    let mut more = List::new(changes.allocator());
-    for id in &names {
-        settle_named(&mut more, tables, changes, *id)?;
+    match courses.course(id) {
+        Some(course) => settle_course(more, tables, course),
+        None => Ok(()),
+    }
+}
+
+fn settlings_by(
+    alloc: Global,
+    tables: &Tables,
+    courses: &Courses,
+) -> Result<List<Change>, AllocError>
+    ensures { IfOk result (λ more. more ≡ flat_map (λ id. settling_by tables.now (course_of courses.now id)) courses.now.names.items) }
+{
+    let mut more = List::new(alloc);
+    for id in courses.names() {
+        settle_named(&mut more, tables, courses, *id)?;
     }
     Ok(more)
+}
+
+fn settlings<T: MessageTables>(
+    tables: &T,
+    changes: &List<Change>,
+) -> Result<List<Change>, AllocError>
+    ensures { IfOk result (λ more. more ≡ flat_map (settling (T.tables tables.now) changes.now) (names_of changes.now)) }
+{
+    let courses = courses_of(tables, changes)?;
+    settlings_by(changes.allocator(), tables.tables(), &courses)
 }
 
 fn joined(first: List<Change>, second: List<Change>) -> Result<List<Change>, AllocError>
@@ -136,9 +161,12 @@ fn joined(first: List<Change>, second: List<Change>) -> Result<List<Change>, All
 }
 
 /// What a list of changes is with what it settles: for each message that it names, that it moves to its exception queue
-/// or goes.
-pub fn settle(tables: &Tables, changes: List<Change>) -> Result<List<Change>, AllocError>
-    ensures { IfOk result (λ all. all ≡ settled tables.now changes) }
+/// or goes. A message is looked for in the tables once.
+pub fn settle<T: MessageTables>(
+    tables: &T,
+    changes: List<Change>,
+) -> Result<List<Change>, AllocError>
+    ensures { IfOk result (λ all. all ≡ settled (T.tables tables.now) changes) }
 {
     let more = settlings(tables, &changes)?;
     joined(changes, more)
