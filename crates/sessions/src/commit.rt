@@ -9,7 +9,7 @@ ghost use Rattle.sessions.specs.Within.{IsWithin, IsPendingWithin};
 use crate::SessionState;
 use crate::completed::{Stamp, change_of};
 use crate::running::lower_by;
-use exception_queues::settle;
+use exception_queues::{MessageTables, settle};
 use payload_records::{Copied, List};
 use queue_rows::{Change, Pending, QueueRow, Tables};
 use std::alloc::AllocError;
@@ -67,39 +67,40 @@ fn changes_from(
 }
 
 /// What pending additions and removals become when they are committed at that moment, as one transaction.
-pub fn changes_of(
-    tables: &Tables,
+pub fn changes_of<T: MessageTables>(
+    tables: &T,
     pending: &List<Pending>,
     moment: u64,
 ) -> Result<List<Change>, AllocError>
     requires moment { moment ≤ 2 ^ 62 }
-    requires group { tables.now.transaction < 2 ^ 62 }
+    requires group { (T.tables tables.now).transaction < 2 ^ 62 }
     requires count { length pending.now < 2 ^ 61 }
-    requires lowest { All (IsLowest (2 ^ 62)) tables.now.queues }
+    requires lowest { All (IsLowest (2 ^ 62)) (T.tables tables.now).queues }
     requires numbers { All IsPendable pending.now }
-    ensures changes { IfOk result (λ changes. changes ≡ commit_of tables.now moment pending.now) }
-    ensures within { (n g r : ℕ) → All (IsPendingWithin n g r tables.now.transaction) pending.now → IfOk result (λ changes. All (IsWithin n g r) changes) }
+    ensures changes { IfOk result (λ changes. changes ≡ commit_of (T.tables tables.now) moment pending.now) }
+    ensures within { (n g r : ℕ) → All (IsPendingWithin n g r (T.tables tables.now).transaction) pending.now → IfOk result (λ changes. All (IsWithin n g r) changes) }
 {
+    let rows = tables.tables();
     let stamp = Stamp {
-        group: tables.transaction,
+        group: rows.transaction,
         moment,
     };
-    settle(tables, changes_from(tables, stamp, pending)?)
+    settle(tables, changes_from(rows, stamp, pending)?)
 }
 
 /// What a session's pending additions and removals become when it commits at that moment.
-pub fn commit_changes(
-    tables: &Tables,
+pub fn commit_changes<T: MessageTables>(
+    tables: &T,
     session: &SessionState,
     moment: u64,
 ) -> Result<List<Change>, AllocError>
     requires moment { moment ≤ 2 ^ 62 }
-    requires group { tables.now.transaction < 2 ^ 62 }
+    requires group { (T.tables tables.now).transaction < 2 ^ 62 }
     requires count { length session.now.pending < 2 ^ 61 }
-    requires lowest { All (IsLowest (2 ^ 62)) tables.now.queues }
+    requires lowest { All (IsLowest (2 ^ 62)) (T.tables tables.now).queues }
     requires numbers { All IsPendable session.now.pending }
-    ensures changes { IfOk result (λ changes. changes ≡ commit_of tables.now moment session.now.pending) }
-    ensures within { (n g r : ℕ) → All (IsPendingWithin n g r tables.now.transaction) session.now.pending → IfOk result (λ changes. All (IsWithin n g r) changes) }
+    ensures changes { IfOk result (λ changes. changes ≡ commit_of (T.tables tables.now) moment session.now.pending) }
+    ensures within { (n g r : ℕ) → All (IsPendingWithin n g r (T.tables tables.now).transaction) session.now.pending → IfOk result (λ changes. All (IsWithin n g r) changes) }
 {
     changes_of(tables, &session.pending, moment)
 }

@@ -6,7 +6,7 @@ ghost use Rattle.sessions.specs.Numbers.{IsCountable, AreCountable, IsDelaying};
 ghost use Rattle.sessions.specs.Within.{IsWithin, IsMessageWithin};
 
 use crate::SessionState;
-use exception_queues::{find_message, find_queue, is_exception, settle, slot_of};
+use exception_queues::{MessageTables, find_queue, is_exception, settle, slot_of};
 use payload_records::List;
 use queue_rows::{Change, MsgRow, Pending, QueueRow, SlotRow, Tables};
 use std::alloc::AllocError;
@@ -132,35 +132,36 @@ fn retry_message(
 }
 
 #[tactic(auto, using(crate::proofs::Each::found_each))]
-fn retry(
+fn retry<T: MessageTables>(
     changes: &mut List<Change>,
-    tables: &Tables,
+    tables: &T,
     pending: &Pending,
     moment: u64,
 ) -> Result<(), AllocError>
     requires moment { moment ≤ 2 ^ 62 }
-    requires delays { All IsDelaying tables.now.queues }
-    requires retries { All AreCountable tables.now.messages }
-    ensures { OnOk result (changes.new ≡ changes.old ++ retry_of tables.now moment pending.now) }
+    requires delays { All IsDelaying (T.tables tables.now).queues }
+    requires retries { All AreCountable (T.tables tables.now).messages }
+    ensures { OnOk result (changes.new ≡ changes.old ++ retry_of (T.tables tables.now) moment pending.now) }
 {
     match pending {
         Pending::Add(_) => Ok(()),
         Pending::Remove { id, slot } => {
-            let message = find_message(tables, *id);
-            retry_message(changes, tables, message, moment, *id, u64::from(*slot))
+            let message = tables.message(*id);
+            let slot = u64::from(*slot);
+            retry_message(changes, tables.tables(), message, moment, *id, slot)
         }
     }
 }
 
-fn retries_of(
-    tables: &Tables,
+fn retries_of<T: MessageTables>(
+    tables: &T,
     pending: &List<Pending>,
     moment: u64,
 ) -> Result<List<Change>, AllocError>
     requires moment { moment ≤ 2 ^ 62 }
-    requires delays { All IsDelaying tables.now.queues }
-    requires retries { All AreCountable tables.now.messages }
-    ensures { IfOk result (λ changes. changes ≡ flat_map (retry_of tables.now moment) pending.now) }
+    requires delays { All IsDelaying (T.tables tables.now).queues }
+    requires retries { All AreCountable (T.tables tables.now).messages }
+    ensures { IfOk result (λ changes. changes ≡ flat_map (retry_of (T.tables tables.now) moment) pending.now) }
 {
     let mut changes = List::new(pending.allocator());
     for pending in pending {
@@ -170,16 +171,16 @@ fn retries_of(
 }
 
 /// What a session's pending additions and removals become when it rolls back at that moment.
-pub fn rollback_changes(
-    tables: &Tables,
+pub fn rollback_changes<T: MessageTables>(
+    tables: &T,
     session: &SessionState,
     moment: u64,
 ) -> Result<List<Change>, AllocError>
     requires moment { moment ≤ 2 ^ 62 }
-    requires delays { All IsDelaying tables.now.queues }
-    requires retries { All AreCountable tables.now.messages }
-    ensures changes { IfOk result (λ changes. changes ≡ rollback_of tables.now moment session.now.pending) }
-    ensures within { (n g r : ℕ) → All (IsMessageWithin r) tables.now.messages → IfOk result (λ changes. All (IsWithin n g (r + 1)) changes) }
+    requires delays { All IsDelaying (T.tables tables.now).queues }
+    requires retries { All AreCountable (T.tables tables.now).messages }
+    ensures changes { IfOk result (λ changes. changes ≡ rollback_of (T.tables tables.now) moment session.now.pending) }
+    ensures within { (n g r : ℕ) → All (IsMessageWithin r) (T.tables tables.now).messages → IfOk result (λ changes. All (IsWithin n g (r + 1)) changes) }
 {
     settle(tables, retries_of(tables, &session.pending, moment)?)
 }
