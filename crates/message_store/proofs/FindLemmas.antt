@@ -1,9 +1,10 @@
 -- The message that is found by a number.
-use Rattle.std.proofs.Common.{◌≡◌, ℕ, ◌==◌, List, [], ◌∷◌, length, Bool, true, false, cond, Option, Some, None, sym, ap, ◌∙◌, subst, nat_lt, refl}
+use Rattle.std.proofs.Common.{◌≡◌, ℕ, ◌==◌, ◌≤◌, List, [], ◌∷◌, length, Bool, true, false, cond, Option, Some, None, sym, ap, ◌∙◌, subst, nat_lt, refl}
 use Rattle.std.specs.Prelude.{find, position, slice_get, IfSome}
 use Rattle.std.specs.List.{position_or_len}
-use Rattle.std.proofs.lemmas.Bool.{eqb-true}
+use Rattle.std.proofs.lemmas.Bool.{eqb-true, ltb-false}
 use Rattle.std.proofs.lemmas.List.Folds.{find_at}
+use Rattle.std.proofs.lemmas.Option.{slice_get_past}
 use Rattle.queue_rows.specs.declared.rows.MsgRow.{MsgRow}
 
 place_is : (b : Bool) (n i : ℕ) → cond b (Some n) None ≡ Some i → n ≡ i
@@ -23,6 +24,16 @@ module _ {X : Type 0} where
   -- what is found stands at its position
   pub find-at_position : (p : X → Bool) (xs : List X) (i : ℕ) → position p xs ≡ Some i → find p xs ≡ slice_get xs i
   find-at_position p xs i e = find_at p xs ∙ ap (slice_get xs) (place_is (nat_lt (position_or_len p xs) (length xs)) (position_or_len p xs) i e)
+
+  no_place : (p : X → Bool) (xs : List X) (b : Bool) → nat_lt (position_or_len p xs) (length xs) ≡ b → cond b (Some (position_or_len p xs)) None ≡ None → find p xs ≡ None
+  no_place p xs true is e = cc
+  no_place p xs false is e =
+      let past : length xs ≤ position_or_len p xs = ltb-false (position_or_len p xs) (length xs) is in
+      find_at p xs ∙ slice_get_past xs (position_or_len p xs) past
+
+  -- where there is no position, nothing is found
+  pub find-no_position : (p : X → Bool) (xs : List X) → position p xs ≡ None → find p xs ≡ None
+  find-no_position p xs e = no_place p xs (nat_lt (position_or_len p xs) (length xs)) refl e
 
 -- what holds of the message that is found holds of the one at its position
 pub holds_at_position : (P : MsgRow → Type 0) (ms : List MsgRow) (id i : ℕ) → position (λ m. m.id == id) ms ≡ Some i → IfSome (find (λ m. m.id == id) ms) P → IfSome (slice_get ms i) P

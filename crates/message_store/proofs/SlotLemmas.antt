@@ -1,6 +1,7 @@
 -- How many slots a change can add to the messages of a number.
 use Rattle.std.proofs.Common.{◌≡◌, ℕ, zero, suc, ◌+◌, ◌<◌, ◌≤◌, ◌==◌, List, [], ◌∷◌, length, length-append, take, drop, get_or, Bool, true, false, cond, not, filter, Option, Some, None, refl, ap, ◌∙◌, arith}
-use Rattle.std.specs.Prelude.{find, position, slice_get, sum_by}
+use Rattle.std.specs.Prelude.{count_by, find, position, slice_get, sum_by}
+use Rattle.std.specs.Option.{option_map_or}
 use Rattle.std.specs.Str.{bytes_eq}
 use Rattle.std.proofs.lemmas.Bool.{eqb-true}
 use Rattle.std.proofs.lemmas.List.{length-set}
@@ -118,3 +119,32 @@ found_slots id (x ∷ xs) m e = by (x.id == id) refl e (found_slots id xs m)
         let same : x ≡ m = cc in
         omega (arith, sum_by-cons (slots_if id) x xs, ap (λ b. or_none b (length x.slots)) is, ap (λ (r : MsgRow). length r.slots) same)
     by false is found more = omega (arith, sum_by-cons (slots_if id) x xs, more found)
+
+counted : (id : ℕ) (m : MsgRow) (ms : List MsgRow) → count_by (λ r. r.id == id) (m ∷ ms) ≡ one_if (m.id == id) + count_by (λ r. r.id == id) ms
+counted id m ms = sum_by-cons (λ r. one_if (r.id == id)) m ms
+
+-- no message has the number
+none_has : (id : ℕ) (ms : List MsgRow) → count_by (λ r. r.id == id) ms ≤ 0 → slots_of id ms ≡ 0
+none_has id [] h = refl
+none_has id (m ∷ ms) h = by (m.id == id) refl (none_has id ms)
+  where
+    by : (b : Bool) → (m.id == id) ≡ b → (count_by (λ r. r.id == id) ms ≤ 0 → slots_of id ms ≡ 0) → slots_of id (m ∷ ms) ≡ 0
+    by true is rest = absurd (omega (arith, counted id m ms, ap one_if is))
+    by false is rest =
+        let fewer : count_by (λ r. r.id == id) ms ≤ 0 = omega (arith, counted id m ms) in
+        omega (arith, sum_by-cons (slots_if id) m ms, ap (λ b. or_none b (length m.slots)) is, rest fewer)
+
+-- where at most one message has a number, the slots of the one that is found are those of the number
+pub slots_alone : (id : ℕ) (ms : List MsgRow) → count_by (λ r. r.id == id) ms ≤ 1 → option_map_or (λ m. length m.slots) (find (λ r. r.id == id) ms) 0 ≡ slots_of id ms
+slots_alone id [] h = refl
+slots_alone id (m ∷ ms) h = by (m.id == id) refl (slots_alone id ms)
+  where
+    by : (b : Bool) → (m.id == id) ≡ b
+        → (count_by (λ r. r.id == id) ms ≤ 1 → option_map_or (λ r. length r.slots) (find (λ r. r.id == id) ms) 0 ≡ slots_of id ms)
+        → option_map_or (λ r. length r.slots) (cond b (Some m) (find (λ r. r.id == id) ms)) 0 ≡ slots_of id (m ∷ ms)
+    by true is rest =
+        let none : count_by (λ r. r.id == id) ms ≤ 0 = omega (arith, counted id m ms, ap one_if is) in
+        omega (arith, sum_by-cons (slots_if id) m ms, ap (λ b. or_none b (length m.slots)) is, none_has id ms none)
+    by false is rest =
+        let one : count_by (λ r. r.id == id) ms ≤ 1 = omega (arith, counted id m ms) in
+        omega (arith, sum_by-cons (slots_if id) m ms, ap (λ b. or_none b (length m.slots)) is, rest one)

@@ -1,5 +1,8 @@
 pub mod Numbers
 pub mod Rows
+pub mod Indexed
+pub mod Stamps
+pub mod Messages
 pub mod Lowered
 pub mod Room
 pub mod Puts

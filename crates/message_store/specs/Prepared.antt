@@ -1,5 +1,5 @@
 -- Changes for which all memory was taken.
-use Rattle.std.specs.Prelude.{◌≡◌, ℕ, ◌+◌, ◌<◌, ◌≤◌, ◌==◌, List, [], ◌∷◌, length, map, sum_by, IfSome, if◌then◌else◌}
+use Rattle.std.specs.Prelude.{◌≡◌, ℕ, ◌+◌, ◌<◌, ◌≤◌, ◌==◌, Bool, true, false, Option, List, [], ◌∷◌, length, map, sum_by, unwrap_or, IfSome, if◌then◌else◌}
 use Rattle.queue_rows.specs.Rows.{find_message}
 use Rattle.queue_rows.specs.Tables.{after_change}
 use Rattle.queue_rows.specs.declared.tables.Tables.{Tables}
@@ -21,6 +21,15 @@ abbrev pub slots_added : ℕ → Change → ℕ
 slots_added id (changes.Enqueued row) = if row.id == id then length row.slots else 0
 slots_added id (changes.Moved moved queue at) = if moved == id then 1 else 0
 slots_added id _ = 0
+
+abbrev pub is_move : Change → Bool
+is_move (changes.Moved id queue at) = true
+is_move _ = false
+
+-- of the number of a message that a change moves, what is told is how many slots some changes may add to it
+abbrev pub TellsAdded : (ℕ → Option ℕ) → List Change → Change → Type 0
+TellsAdded told cs (changes.Moved id queue at) = unwrap_or (told id) 0 ≡ sum_by (slots_added id) cs
+TellsAdded told cs _ = Unit {0}
 
 -- how many slots a message of a number can have after some of these changes
 abbrev pub most_slots : ℕ → List MsgRow → List Change → ℕ

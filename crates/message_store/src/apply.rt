@@ -12,10 +12,9 @@ use crate::open::OpenTables;
 use crate::prepared::{Prepared, prepare};
 use crate::room::{RowKind, puts_of};
 use crate::rows::{
-    put, remove_exception_queue, remove_message, remove_of_queue, remove_queue, remove_schedule,
-    remove_sub, remove_table,
+    put, remove_exception_queue, remove_of_queue, remove_queue, remove_schedule, remove_sub,
+    remove_table,
 };
-use crate::slots::{set_retried, set_state};
 use payload_records::{List, Name};
 use queue_rows::{Change, SlotState};
 use std::alloc::AllocError;
@@ -27,7 +26,7 @@ fn drop_queue(opened: &mut OpenTables, name: &Name)
     remove_queue(&mut opened.queues, name);
     remove_of_queue(&mut opened.subs, name);
     remove_of_queue(&mut opened.schedules, name);
-    remove_of_queue(&mut opened.messages, name);
+    opened.messages.remove_of_queue(name);
 }
 
 fn drop_table(opened: &mut OpenTables, name: &Name)
@@ -69,21 +68,23 @@ fn apply_change(opened: &mut OpenTables, prepared: Prepared)
             retries,
             until,
             at,
-        } => set_retried(&mut opened.messages, id, slot, retries, until, at),
+        } => opened.messages.set_retried(id, slot, retries, until, at),
         Change::Ready { id, slot, at } => {
-            set_state(&mut opened.messages, id, slot, SlotState::Ready, at)
+            opened.messages.set_state(id, slot, SlotState::Ready, at)
         }
         Change::Done { id, slot, at } => {
-            set_state(&mut opened.messages, id, slot, SlotState::Processed, at)
+            opened
+                .messages
+                .set_state(id, slot, SlotState::Processed, at)
         }
         Change::Expired { id, slot, at } => {
-            set_state(&mut opened.messages, id, slot, SlotState::Expired, at)
+            opened.messages.set_state(id, slot, SlotState::Expired, at)
         }
         Change::Dropped { id, slot, at } => {
-            set_state(&mut opened.messages, id, slot, SlotState::Dropped, at)
+            opened.messages.set_state(id, slot, SlotState::Dropped, at)
         }
         Change::Moved { id, queue, at } => move_message(opened, id, queue, at, slots),
-        Change::Purged { id } => remove_message(&mut opened.messages, id),
+        Change::Purged { id } => opened.messages.remove_message(id),
         Change::Seen(row) => opened.seen.push(row),
         Change::Counters {
             next,
@@ -123,7 +124,7 @@ fn make_ready(opened: &mut OpenTables, changes: &List<Change>) -> Result<Vec<Pre
     ensures ready { IfOk result (λ ps. AreReady (held opened.new) (room_of opened.new) ps.items) }
 {
     make_room(opened, changes)?;
-    let prepared = prepare(opened.messages.as_slice(), changes)?;
+    let prepared = prepare(&opened.messages, changes)?;
     Ok(prepared)
 }
 

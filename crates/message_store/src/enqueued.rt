@@ -8,8 +8,7 @@ ghost use Rattle.message_store.specs.Open.{held, room_of};
 
 use crate::open::OpenTables;
 use crate::open_rows::OpenRows;
-use crate::rows::{message_place, queue_place};
-use crate::slots::move_at;
+use crate::rows::queue_place;
 use payload_records::Name;
 use place_keys::Place;
 use queue_rows::{MsgRow, QueueRow, SlotRow, TableRow};
@@ -82,22 +81,6 @@ pub(crate) fn enqueue(opened: &mut OpenTables, row: MsgRow)
     opened.messages.push(row);
 }
 
-fn message_row(messages: &OpenRows<MsgRow>, id: u64) -> Option<&MsgRow>
-    ensures { option_copied result ≡ find (λ m. m.id == id) messages.now.items }
-{
-    messages.as_slice().iter().find(|m| m.id == id)
-}
-
-fn move_of(messages: &mut OpenRows<MsgRow>, id: u64, queue: Name, at: u64, slots: OpenRows<SlotRow>)
-    requires empty { slots.items ≡ [] }
-    requires room { IfSome (find (λ m. m.id == id) messages.old.items) (λ m. length m.slots < slots.room) }
-    ensures { messages.new ≡ record messages.old { items = changed_first (λ m. m.id == id) (moved_to queue at) messages.old.items } }
-{
-    if let Some(index) = message_place(messages.as_slice(), id) {
-        move_at(messages, index, queue, at, slots);
-    }
-}
-
 /// The first message of that number stands in that queue, if there is one, with slot 0 behind its slots.
 pub(crate) fn move_message(
     opened: &mut OpenTables,
@@ -111,10 +94,10 @@ pub(crate) fn move_message(
     ensures held { held opened.new ≡ move_some (held opened.old) (find_message (held opened.old) id) queue at }
     ensures room { room_of opened.new ≡ room_of opened.old }
 {
-    let Some(message) = message_row(&opened.messages, id) else {
+    let Some(message) = opened.messages.find(id) else {
         return;
     };
     lower_of(&opened.tables, &mut opened.queues, &queue, &message.place);
     let id = message.id;
-    move_of(&mut opened.messages, id, queue, at, slots);
+    opened.messages.move_to(id, queue, at, slots);
 }

@@ -1,10 +1,13 @@
 //! The tables of a database, as its commits leave them.
 #![tactic(auto)]
 
+mod added_slots;
 mod apply;
 mod copies;
 mod enqueued;
+mod message_index;
 mod open;
+mod open_messages;
 mod open_rows;
 mod prepared;
 mod room;

@@ -1,9 +1,12 @@
 // The tables of a database, while a commit is made.
 ghost use Rattle.std.specs.Prelude.{◌≡◌};
+ghost use Rattle.message_store.specs.Messages.{ids_of};
 ghost use Rattle.message_store.specs.Open.{held};
 
+use crate::message_index::MessageIndex;
+use crate::open_messages::OpenMessages;
 use crate::open_rows::OpenRows;
-use queue_rows::{MsgRow, QueueRow, ScheduleRow, SeenRow, SubRow, TableRow, Tables};
+use queue_rows::{QueueRow, ScheduleRow, SeenRow, SubRow, TableRow, Tables};
 
 /// What a database holds, with memory for more rows of each kind.
 #[derive(Drop)]
@@ -16,8 +19,8 @@ pub(crate) struct OpenTables {
     pub(crate) subs: OpenRows<SubRow>,
     /// The schedules.
     pub(crate) schedules: OpenRows<ScheduleRow>,
-    /// The messages.
-    pub(crate) messages: OpenRows<MsgRow>,
+    /// The messages, with their index.
+    pub(crate) messages: OpenMessages,
     /// What has arrived from the other database.
     pub(crate) seen: OpenRows<SeenRow>,
     /// One above the greatest id that was committed.
@@ -29,8 +32,9 @@ pub(crate) struct OpenTables {
 }
 
 impl OpenTables {
-    /// The tables, opened. It takes no memory.
-    pub(crate) fn of(tables: Tables) -> OpenTables
+    /// The tables, opened, with the index of their messages. It takes no memory.
+    pub(crate) fn of(tables: Tables, index: MessageIndex) -> OpenTables
+        requires { index.ids ≡ ids_of tables.messages }
         ensures { held result ≡ tables }
     {
         OpenTables {
@@ -38,7 +42,7 @@ impl OpenTables {
             queues: OpenRows::of(tables.queues),
             subs: OpenRows::of(tables.subs),
             schedules: OpenRows::of(tables.schedules),
-            messages: OpenRows::of(tables.messages),
+            messages: OpenMessages::of(tables.messages, index),
             seen: OpenRows::of(tables.seen),
             next: tables.next,
             transaction: tables.transaction,
@@ -46,20 +50,23 @@ impl OpenTables {
         }
     }
 
-    /// The tables, closed again. It takes no memory.
-    pub(crate) fn close(self) -> Tables
-        ensures { result ≡ held self }
+    /// The tables, closed again, and the index of their messages. It takes no memory.
+    pub(crate) fn close(self) -> (Tables, MessageIndex)
+        ensures tables { result.0 ≡ held self }
+        ensures index { result.1.ids ≡ ids_of result.0.messages }
     {
-        Tables {
+        let (messages, index) = self.messages.close();
+        let tables = Tables {
             tables: self.tables.into_list(),
             queues: self.queues.into_list(),
             subs: self.subs.into_list(),
             schedules: self.schedules.into_list(),
-            messages: self.messages.into_list(),
+            messages,
             seen: self.seen.into_list(),
             next: self.next,
             transaction: self.transaction,
             latest: self.latest,
-        }
+        };
+        (tables, index)
     }
 }

@@ -1,5 +1,5 @@
 // Rows of one kind, while a commit is made.
-ghost use Rattle.std.specs.Prelude.{◌≡◌, ◌+◌, ◌-◌, ◌<◌, ◌≤◌, [], ◌∷◌, ◌++◌, OnOk, OnErr, length, remove, slice_get, slice_set};
+ghost use Rattle.std.specs.Prelude.{◌≡◌, ◌+◌, ◌-◌, ◌<◌, ◌≤◌, [], ◌∷◌, ◌++◌, OnOk, OnErr, length, option_copied, remove, slice_get, slice_set};
 ghost use Rattle.std.specs.Fn.{CalledAt};
 ghost use Rattle.std.specs.List.Retain.{IsFiltered};
 ghost use Rattle.std.specs.Borrow.{LendsIf, sem};
@@ -61,6 +61,20 @@ impl<T> OpenRows<T> {
         ensures { result.now ≡ self.now.items }
     {
         self.items.as_slice()
+    }
+
+    /// The row at an index, or None past the end.
+    pub(crate) fn get(&self, at: usize) -> Option<&T>
+        ensures { option_copied result ≡ slice_get self.now.items at }
+    {
+        self.items.get(at)
+    }
+
+    /// For how many more rows there is memory.
+    pub(crate) fn room(&self) -> usize
+        ensures { result ≡ self.now.room }
+    {
+        self.room
     }
 
     /// Takes memory for so many more rows.

@@ -1,8 +1,12 @@
 // Changes for which memory is taken ahead.
-ghost use Rattle.std.specs.Prelude.{◌≡◌, ◌==◌, ◌+◌, [], All, IfOk, length, sum_by, if◌then◌else◌};
-ghost use Rattle.message_store.specs.Prepared.{slots_of, slots_added, most_slots, HasSlotRoom, changes_of};
+ghost use Rattle.std.specs.Prelude.{◌≡◌, ◌==◌, ◌+◌, [], All, IfOk, find, length, nat_eq, if◌then◌else◌};
+ghost use Rattle.std.specs.HashMap.{get};
+ghost use Rattle.std.specs.Option.{option_map_or};
+ghost use Rattle.message_store.specs.Prepared.{slots_of, HasSlotRoom, TellsAdded, changes_of};
 
+use crate::added_slots::{AddedSlots, added_slots, added_to, total};
 use crate::copies::copy_of;
+use crate::open_messages::OpenMessages;
 use crate::open_rows::OpenRows;
 use payload_records::List;
 use queue_rows::{Change, MsgRow, SlotRow};
@@ -17,12 +21,6 @@ pub(crate) struct Prepared {
     pub(crate) slots: OpenRows<SlotRow>,
 }
 
-fn total(a: usize, b: usize) -> Result<usize, AllocError>
-    ensures { IfOk result (λ n. n ≡ a + b) }
-{
-    a.checked_add(b).ok_or(AllocError)
-}
-
 fn slots_if(message: &MsgRow, id: u64) -> usize
     ensures { result ≡ (if message.now.id == id then length message.now.slots else 0) }
 {
@@ -33,7 +31,7 @@ fn slots_if(message: &MsgRow, id: u64) -> usize
     }
 }
 
-fn slots_of(messages: &[MsgRow], id: u64) -> Result<usize, AllocError>
+fn slots_of_all(messages: &[MsgRow], id: u64) -> Result<usize, AllocError>
     ensures { IfOk result (λ n. n ≡ slots_of id messages.now) }
 {
     let mut slots = 0;
@@ -43,64 +41,67 @@ fn slots_of(messages: &[MsgRow], id: u64) -> Result<usize, AllocError>
     Ok(slots)
 }
 
-fn slots_added(change: &Change, id: u64) -> usize
-    ensures { result ≡ slots_added id change.now }
+fn slots_of_first(messages: &OpenMessages, id: u64) -> usize
+    ensures { result ≡ option_map_or (λ m. length m.slots) (find (λ m. m.id == id) messages.now.items) 0 }
 {
-    match change {
-        Change::Enqueued(row) => slots_if(row, id),
-        Change::Moved { id: moved, .. } => { if *moved == id { 1 } else { 0 } }
-        _ => 0,
+    match messages.find(id) {
+        Some(message) => message.slots.len(),
+        None => 0,
     }
 }
 
-fn slots_added_by(changes: &List<Change>, id: u64) -> Result<usize, AllocError>
-    ensures { IfOk result (λ n. n ≡ sum_by (slots_added id) changes.now) }
+fn slots_of(messages: &OpenMessages, id: u64) -> Result<usize, AllocError>
+    ensures { IfOk result (λ n. n ≡ slots_of id messages.now.items) }
 {
-    let mut slots = 0;
-    for change in changes {
-        slots = total(slots, slots_added(change, id))?;
+    if messages.is_alone(id) {
+        Ok(slots_of_first(messages, id))
+    } else {
+        slots_of_all(messages.as_slice(), id)
     }
-    Ok(slots)
 }
 
 fn room_for_slots(
     alloc: Global,
-    messages: &[MsgRow],
-    changes: &List<Change>,
+    messages: &OpenMessages,
+    added: usize,
     id: u64,
 ) -> Result<OpenRows<SlotRow>, AllocError>
     ensures none { IfOk result (λ slots. slots.items ≡ []) }
-    ensures room { IfOk result (λ slots. slots.room ≡ most_slots id messages.now changes.now) }
+    ensures room { IfOk result (λ slots. slots.room ≡ slots_of id messages.now.items + added) }
 {
-    let most = total(slots_of(messages, id)?, slots_added_by(changes, id)?)?;
+    let most = total(slots_of(messages, id)?, added)?;
     let mut slots = OpenRows::new(alloc);
     slots.reserve(most)?;
     Ok(slots)
 }
 
 fn slots_for(
-    messages: &[MsgRow],
+    messages: &OpenMessages,
     changes: &List<Change>,
+    added: &AddedSlots,
     change: &Change,
 ) -> Result<OpenRows<SlotRow>, AllocError>
-    ensures { IfOk result (HasSlotRoom messages.now changes.now change.now) }
+    requires { TellsAdded (get nat_eq added.now) changes.now change.now }
+    ensures { IfOk result (HasSlotRoom messages.now.items changes.now change.now) }
 {
     let alloc = changes.allocator();
     match change {
-        Change::Moved { id, .. } => room_for_slots(alloc, messages, changes, *id),
+        Change::Moved { id, .. } => room_for_slots(alloc, messages, added_to(added, *id), *id),
         _ => Ok(OpenRows::new(alloc)),
     }
 }
 
 fn prepare_one(
-    messages: &[MsgRow],
+    messages: &OpenMessages,
     changes: &List<Change>,
+    added: &AddedSlots,
     change: &Change,
 ) -> Result<Prepared, AllocError>
+    requires { TellsAdded (get nat_eq added.now) changes.now change.now }
     ensures change { IfOk result (λ p. p.change ≡ change.now) }
-    ensures slots { IfOk result (λ p. HasSlotRoom messages.now changes.now p.change p.slots) }
+    ensures slots { IfOk result (λ p. HasSlotRoom messages.now.items changes.now p.change p.slots) }
 {
-    let slots = slots_for(messages, changes, change)?;
+    let slots = slots_for(messages, changes, added, change)?;
     Ok(Prepared {
         change: copy_of(change)?,
         slots,
@@ -109,15 +110,16 @@ fn prepare_one(
 
 /// Copies of the changes, each with memory for the slots of the message that it moves.
 pub(crate) fn prepare(
-    messages: &[MsgRow],
+    messages: &OpenMessages,
     changes: &List<Change>,
 ) -> Result<Vec<Prepared>, AllocError>
     ensures changes { IfOk result (λ ps. changes_of ps.items ≡ changes.now) }
-    ensures slots { IfOk result (λ ps. All (λ p. HasSlotRoom messages.now changes.now p.change p.slots) ps.items) }
+    ensures slots { IfOk result (λ ps. All (λ p. HasSlotRoom messages.now.items changes.now p.change p.slots) ps.items) }
 {
+    let added = added_slots(changes)?;
     let mut prepared = Vec::with_capacity(changes.allocator(), changes.len())?;
     for change in changes {
-        prepared.push(prepare_one(messages, changes, change)?)?;
+        prepared.push(prepare_one(messages, changes, &added, change)?)?;
     }
     Ok(prepared)
 }

@@ -125,14 +125,6 @@ fn schedule_place(rows: &[ScheduleRow], queue: &Name, to: &Name) -> Option<usize
     rows.iter().position(|s| s.queue.as_str() == queue.as_str() && s.to.as_str() == to.as_str())
 }
 
-/// Where the message of that number stands.
-pub(crate) fn message_place(rows: &[MsgRow], id: u64) -> Option<usize>
-    ensures first { result ≡ position (λ m. m.id == id) rows.now }
-    ensures within { IfSome result (λ i. i < length rows.now) }
-{
-    rows.iter().position(|m| m.id == id)
-}
-
 /// Takes the queue table of that name out, if there is one.
 pub(crate) fn remove_table(rows: &mut OpenRows<TableRow>, name: &Name)
     ensures { rows.new ≡ record rows.old { items = removed_first (λ r. bytes_eq r.name name.now) rows.old.items } }
@@ -170,14 +162,6 @@ pub(crate) fn remove_schedule(rows: &mut OpenRows<ScheduleRow>, queue: &Name, to
     ensures { rows.new ≡ record rows.old { items = removed_first (λ s. bytes_eq s.queue queue.now && bytes_eq s.to to.now) rows.old.items } }
 {
     let at = schedule_place(rows.as_slice(), queue, to);
-    remove_at(rows, at);
-}
-
-/// Takes the message of that number out, if there is one.
-pub(crate) fn remove_message(rows: &mut OpenRows<MsgRow>, id: u64)
-    ensures { rows.new ≡ record rows.old { items = removed_first (λ m. m.id == id) rows.old.items } }
-{
-    let at = message_place(rows.as_slice(), id);
     remove_at(rows, at);
 }
 

@@ -1,11 +1,10 @@
 // The slots of messages.
 ghost use Rattle.std.specs.Prelude.{◌≡◌, ◌==◌, ◌<◌, []};
-ghost use Rattle.std.specs.Prelude.{◌∷◌, ◌++◌, length, IfSome, slice_get};
-ghost use Rattle.queue_rows.specs.Rows.{changed_first, changed_nth, slot_index, with_slot};
+ghost use Rattle.std.specs.Prelude.{◌∷◌, ◌++◌, length};
+ghost use Rattle.queue_rows.specs.Rows.{changed_nth, slot_index, with_slot};
 ghost use Rattle.queue_rows.specs.Tables.{in_state, retried, most_retries, slot_zero, moved_to};
 
 use crate::open_rows::OpenRows;
-use crate::rows::message_place;
 use payload_records::{List, Name};
 use queue_rows::{MsgRow, SlotRow, SlotState};
 use std::mem;
@@ -29,29 +28,12 @@ fn set_slot_state(slots: &mut List<SlotRow>, index: usize, state: SlotState, at:
     }
 }
 
-fn set_message_state(message: &mut MsgRow, slot: u64, state: SlotState, at: u64)
+/// The slot of a message is in that state from a moment on.
+pub(crate) fn set_message_state(message: &mut MsgRow, slot: u64, state: SlotState, at: u64)
     ensures { message.new ≡ with_slot slot (in_state state at) message.old }
 {
     let index = slot_index(message, slot);
     set_slot_state(&mut message.slots, index as usize, state, at);
-}
-
-/// The slot of the first message of that number is in that state from a moment on.
-pub(crate) fn set_state(
-    messages: &mut OpenRows<MsgRow>,
-    id: u64,
-    slot: u64,
-    state: SlotState,
-    at: u64,
-)
-    ensures { messages.new ≡ record messages.old { items = changed_first (λ m. m.id == id) (with_slot slot (in_state state at)) messages.old.items } }
-{
-    let Some(index) = message_place(messages.as_slice(), id) else {
-        return;
-    };
-    if let Some(message) = messages.get_mut(index) {
-        set_message_state(message, slot, state, at);
-    }
 }
 
 fn retry(slot: &mut SlotRow, retries: u64, until: Option<u64>, at: u64)
@@ -84,30 +66,18 @@ fn set_slot_retried(
     }
 }
 
-fn set_message_retried(message: &mut MsgRow, slot: u64, retries: u64, until: Option<u64>, at: u64)
-    ensures { message.new ≡ with_slot slot (retried retries until at) message.old }
-{
-    let index = slot_index(message, slot);
-    set_slot_retried(&mut message.slots, index as usize, retries, until, at);
-}
-
-/// The slot of the first message of that number was rolled back so often; it waits, or is ready at once.
-pub(crate) fn set_retried(
-    messages: &mut OpenRows<MsgRow>,
-    id: u64,
+/// The slot of a message was rolled back so often; it waits, or is ready at once.
+pub(crate) fn set_message_retried(
+    message: &mut MsgRow,
     slot: u64,
     retries: u64,
     until: Option<u64>,
     at: u64,
 )
-    ensures { messages.new ≡ record messages.old { items = changed_first (λ m. m.id == id) (with_slot slot (retried retries until at)) messages.old.items } }
+    ensures { message.new ≡ with_slot slot (retried retries until at) message.old }
 {
-    let Some(index) = message_place(messages.as_slice(), id) else {
-        return;
-    };
-    if let Some(message) = messages.get_mut(index) {
-        set_message_retried(message, slot, retries, until, at);
-    }
+    let index = slot_index(message, slot);
+    set_slot_retried(&mut message.slots, index as usize, retries, until, at);
 }
 
 fn most_retries(slots: &List<SlotRow>) -> u64
@@ -140,7 +110,8 @@ fn with_slot_zero(slots: &mut List<SlotRow>, at: u64, mut room: OpenRows<SlotRow
     *slots = room.into_list();
 }
 
-fn move_to(message: &mut MsgRow, queue: Name, at: u64, room: OpenRows<SlotRow>)
+/// The message stands in that queue, with slot 0 behind its slots.
+pub(crate) fn move_to(message: &mut MsgRow, queue: Name, at: u64, room: OpenRows<SlotRow>)
     requires empty { room.items ≡ [] }
     requires room { length message.old.slots < room.room }
     ensures { message.new ≡ moved_to queue at message.old }
@@ -148,21 +119,4 @@ fn move_to(message: &mut MsgRow, queue: Name, at: u64, room: OpenRows<SlotRow>)
     message.queue = queue;
     message.moved = true;
     with_slot_zero(&mut message.slots, at, room);
-}
-
-/// The message at an index stands in that queue, with slot 0 behind its slots.
-pub(crate) fn move_at(
-    messages: &mut OpenRows<MsgRow>,
-    index: usize,
-    queue: Name,
-    at: u64,
-    room: OpenRows<SlotRow>,
-)
-    requires empty { room.items ≡ [] }
-    requires room { IfSome (slice_get messages.old.items index) (λ m. length m.slots < room.room) }
-    ensures { messages.new ≡ record messages.old { items = changed_nth (moved_to queue at) index messages.old.items } }
-{
-    if let Some(message) = messages.get_mut(index) {
-        move_to(message, queue, at, room);
-    }
 }

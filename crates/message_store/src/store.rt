@@ -6,17 +6,21 @@ ghost use Rattle.queue_rows.specs.World.{committed_tables};
 ghost use Rattle.message_store.specs.Numbers.{HasNumbers};
 
 use crate::apply::commit;
+use crate::message_index::MessageIndex;
 use crate::open::OpenTables;
+use exception_queues::MessageTables;
 use payload_records::List;
 use queue_rows::{Change, MsgRow, Tables};
 use std::alloc::{AllocError, Global};
 use std::marker::Model;
 use std::mem;
 
-/// The tables of a database. Contracts see the tables of the definitions.
+/// The tables of a database, and an index of their messages by their numbers. Contracts see the tables of the
+/// definitions.
 #[derive(Drop)]
 pub struct Store {
     tables: Tables,
+    index: MessageIndex,
 }
 
 impl Model for Store {
@@ -28,7 +32,12 @@ impl Model for Store {
 
     ghost coded = { Prim.hlevel (codes, cond.the_row.coded) };
 
+    ghost use Rattle.std.specs.Prelude.{◌≡◌};
+    ghost use Rattle.message_store.specs.Messages.{ids_of};
+
     ghost view = { λ s. s.tables };
+
+    ghost invariant = { λ s. s.index.ids ≡ ids_of s.tables.messages };
 }
 
 impl Store {
@@ -38,6 +47,7 @@ impl Store {
     {
         Store {
             tables: Tables::new(alloc),
+            index: MessageIndex::new(alloc),
         }
     }
 
@@ -48,11 +58,12 @@ impl Store {
         &self.tables
     }
 
-    /// The message of that number. It takes no memory.
+    /// The message of that number. It takes no memory, and does not go over the messages.
     pub fn message(&self, id: u64) -> Option<&MsgRow>
         ensures { option_copied result ≡ find_message self.now id }
     {
-        self.tables.messages.iter().find(|m| m.id == id)
+        let at = self.index.position(id)?;
+        self.tables.messages.get(at)
     }
 
     /// Makes the changes of a commit at that moment, in order; an empty list is no commit. All memory is taken before anything
@@ -65,10 +76,26 @@ impl Store {
         if changes.is_empty() {
             return Ok(());
         }
-        let tables = mem::replace(&mut self.tables, Tables::new(changes.allocator()));
-        let mut open = OpenTables::of(tables);
+        let alloc = changes.allocator();
+        let tables = mem::replace(&mut self.tables, Tables::new(alloc));
+        let index = mem::replace(&mut self.index, MessageIndex::new(alloc));
+        let mut open = OpenTables::of(tables, index);
         let outcome = commit(&mut open, changes, moment);
-        self.tables = open.close();
+        let (tables, index) = open.close();
+        self.tables = tables;
+        self.index = index;
         outcome
+    }
+}
+
+impl MessageTables for Store {
+    ghost tables = { λ s. s };
+
+    fn tables(&self) -> &Tables {
+        self.tables()
+    }
+
+    fn message(&self, id: u64) -> Option<&MsgRow> {
+        self.message(id)
     }
 }

@@ -14,7 +14,7 @@ returns-clause-ready c =
     let opened = c.make_room.new.opened in
     let same : c.args.changes.now ≡ changes_of ps = sym c.in_ok-prepared.ensures.changes in
     let IsRoomy : List MsgRow → List Change → Type 0 = λ ms cs. All (λ p. HasSlotRoom ms cs p.change p.slots) ps in
-    let roomy : IsRoomy opened.messages.items (changes_of ps) = subst (IsRoomy opened.messages.items) same (subst (λ (ms : List MsgRow). IsRoomy ms c.args.changes.now) c.as_slice.ensures c.in_ok-prepared.ensures.slots) in
+    let roomy : IsRoomy opened.messages.items (changes_of ps) = subst (IsRoomy opened.messages.items) same c.in_ok-prepared.ensures.slots in
     are_ready (held opened) (room_of opened) ps
     (subst (All HasNumbers) same c.requires)
     (subst (HasRoom (room_of opened)) same c.in_ok-make_room.ensures.room)

@@ -1,6 +1,7 @@
-use Rattle.std.proofs.Common.{◌≡◌, ◌∷◌, ◌++◌, sym, ap, ◌∙◌}
-use Rattle.std.proofs.lemmas.List.Elements.{All-push}
-use Rattle.message_store.specs.Prepared.{HasSlotRoom, changes_of}
+use Rattle.std.proofs.Common.{◌≡◌, ◌∷◌, ◌++◌, nat_eq, sym, ap, ◌∙◌}
+use Rattle.std.specs.HashMap.{get}
+use Rattle.std.proofs.lemmas.List.Elements.{All-push, All-rest}
+use Rattle.message_store.specs.Prepared.{HasSlotRoom, TellsAdded, changes_of}
 use Rattle.message_store.proofs.PreparingLemmas.{one_prepared}
 use Rattle.message_store.proofs.prepared.prepare.Goals as goal
 
@@ -13,5 +14,6 @@ loop-change-preserved c =
     ap (λ x. changes_of ps ++ x ∷ rest) c.in_ok-prepare_one.ensures.change ∙ ap (λ more. changes_of ps ++ more) (sym c.in-Some.ensures.steps) ∙ c.loop-change.invariant.changes in
     record {
       changes = rw c.in_ok-push.ensures.items (one_prepared ps p rest _ same);
-      slots = rw c.in_ok-push.ensures.items (All-push (λ q. HasSlotRoom c.args.messages.now c.args.changes.now q.change q.slots) ps p c.loop-change.invariant.slots c.in_ok-prepare_one.ensures.slots);
+      slots = rw c.in_ok-push.ensures.items (All-push (λ q. HasSlotRoom c.args.messages.now.items c.args.changes.now q.change q.slots) ps p c.loop-change.invariant.slots c.in_ok-prepare_one.ensures.slots);
+      told = All-rest (TellsAdded (get nat_eq c.in_ok-added.added) c.args.changes.now) _ rest _ c.in-Some.ensures.steps c.loop-change.invariant.told;
     }

@@ -1,0 +1,160 @@
+-- What is told of ids by their stamps, and how it follows the entries.
+use Rattle.std.proofs.Common.{◌≡◌, ℕ, suc, ◌+◌, ◌<◌, ◌≤◌, List, [], ◌∷◌, ◌++◌, map, take, drop, length, Bool, true, false, cond, not, inl, inr, Option, Some, None, ◌==◌, nat_lt, refl, sym, ap, ◌∙◌, subst, arith, get_or, length-append, drop-cons}
+use Rattle.std.specs.Prelude.{All, position, remove, count_by, filter}
+use Rattle.std.specs.List.{prefix_len, position_or_len}
+use Rattle.std.specs.List.Sorted.{IsNonDecreasingBy, IsPartitionedBy, IsPartitionPoint}
+use Rattle.std.proofs.lemmas.Bool.{cases_eq, cases_Bool, lt-ltb, le-ltb}
+use Rattle.std.proofs.lemmas.List.{take-append-drop, map-append, take-map, drop-map, length-map, nil_from_length}
+use Rattle.std.proofs.lemmas.List.Elements.{All-append, All-drop, All-filter, All-head, All-map, All-take, filter-append}
+use Rattle.std.proofs.lemmas.List.Folds.{fold-map}
+use Rattle.std.proofs.lemmas.List.Sorted.{IsPartitionedBy-ltb}
+use Rattle.std.proofs.lemmas.List.Sums.{length-filter, prefix_len_is}
+use Rattle.message_store.specs.Stamps.{ids_of, stamps_of, AreBelow, AreRising, HasStamps, TellsStamps, without_entry}
+use Rattle.message_store.specs.declared.message_index.Entry.{Entry}
+use Rattle.message_store.specs.declared.message_index.Place.{Place}
+use Rattle.message_store.specs.declared.message_index.Place.TheVariants as places
+
+-- stamps that rise can be searched for by halves
+never_fall : (es : List Entry) → AreRising es → IsNonDecreasingBy (λ e. e.stamp) es
+never_fall es rising i j d order within = elim (cases_eq i j) [
+  | inl same ↦ let e = ap (λ k. (get_or es k d).stamp) same in omega (arith, e)
+  | inr other ↦ let before : i < j = omega arith in let e = rising i j d before within in omega (arith, e)
+]
+
+pub can_be_halved : (s : ℕ) (es : List Entry) → AreRising es → IsPartitionedBy (λ e. nat_lt e.stamp s) es
+can_be_halved s es rising = IsPartitionedBy-ltb (λ e. e.stamp) es s (never_fall es rising)
+
+pub counted : (s : ℕ) (es : List Entry) (n : ℕ) → n ≤ length es → IsPartitionPoint (λ e. nat_lt e.stamp s ≡ true) (λ e. nat_lt e.stamp s ≡ false) es n → n ≡ prefix_len (λ e. nat_lt e.stamp s) es
+counted s es n within parted =
+    let blank : Entry = record { id = 0; stamp = 0 } in
+    sym (prefix_len_is (λ e. nat_lt e.stamp s) es n blank within (λ k before. parted.0 k blank (omega arith) before) (λ inside. parted.1 n blank (omega arith) inside))
+
+module _ {X Y : Type 0} (f : X → Y) where
+  prefix_len-map : (p : Y → Bool) (xs : List X) → prefix_len p (map f xs) ≡ prefix_len (λ x. p (f x)) xs
+  prefix_len-map p [] = refl
+  prefix_len-map p (x ∷ xs) = ap (λ n. cond (p (f x)) (1 + n) 0) (prefix_len-map p xs)
+
+  position-map : (p : Y → Bool) (xs : List X) → position p (map f xs) ≡ position (λ x. p (f x)) xs
+  position-map p xs =
+      let n = position_or_len (λ x. p (f x)) xs in
+      ap (λ k. cond (nat_lt k (length (map f xs))) (Some k) None) (prefix_len-map (λ y. not (p y)) xs) ∙ ap (λ l. cond (nat_lt n l) (Some n) None) (length-map xs f)
+
+-- the place of an id among the entries is that among the ids
+pub same_place : (id : ℕ) (es : List Entry) → position (λ e. e.id == id) es ≡ position (λ i. i == id) (ids_of es)
+same_place id es = sym (position-map (λ (e : Entry). e.id) (λ i. i == id) es)
+
+-- an id stands in as many places as it has stamps
+pub stamps_counted : (id : ℕ) (es : List Entry) → count_by (λ i. i == id) (ids_of es) ≡ length (stamps_of id es)
+stamps_counted id es =
+    fold-map (λ a i. a + cond (i == id) 1 0) (λ (e : Entry). e.id) 0 es ∙ sym (length-filter (λ (e : Entry). e.id == id) es) ∙ sym (length-map (filter (λ e. e.id == id) es) (λ (e : Entry). e.stamp))
+
+-- an id without stamps stands nowhere
+nowhere : (id : ℕ) (es : List Entry) → stamps_of id es ≡ [] → position_or_len (λ e. e.id == id) es ≡ length es
+nowhere id [] none = refl
+nowhere id (e ∷ es) none = elim (cases_Bool (e.id == id)) [
+  | inl same ↦ let found : stamps_of id (e ∷ es) ≡ e.stamp ∷ stamps_of id es = rw same refl in absurd (omega (arith, ap length none, ap length found))
+  | inr other ↦
+      let rest : stamps_of id (e ∷ es) ≡ stamps_of id es = rw other refl in
+      let behind = nowhere id es (sym rest ∙ none) in
+      rw other (omega (arith, behind))
+]
+
+pub no_place : (id : ℕ) (es : List Entry) → stamps_of id es ≡ [] → None ≡ position (λ i. i == id) (ids_of es)
+no_place id es none =
+    let n = length es in
+    let past : nat_lt n n ≡ false = le-ltb n n (omega arith) in
+    let e : position (λ e. e.id == id) es ≡ None = ap (λ k. cond (nat_lt k n) (Some k) None) (nowhere id es none) ∙ rw past refl in
+    sym e ∙ same_place id es
+
+-- the tail of rising entries rises
+tail_rises : (e : Entry) (es : List Entry) → AreRising (e ∷ es) → AreRising es
+tail_rises e es rising = λ i j d before within. rising (suc i) (suc j) d (omega arith) (omega arith)
+
+above_head : (e : Entry) (es : List Entry) → AreRising (e ∷ es) → All (λ later. e.stamp < later.stamp) es
+above_head e es rising = λ k d within. rising 0 (suc k) d (omega arith) (omega arith)
+
+-- an id that stands elsewhere in rising entries has a stamp above the first one
+above : (id s : ℕ) (e : Entry) (es : List Entry) → AreRising (e ∷ es) → stamps_of id es ≡ s ∷ [] → e.stamp < s
+above id s e es rising is =
+    let Above : ℕ → Type 0 = λ n. e.stamp < n in
+    let kept = filter (λ l. l.id == id) es in
+    let all : All Above (stamps_of id es) = All-map Above (λ (l : Entry). l.stamp) kept (All-filter (λ (l : Entry). l.id == id) (λ l. e.stamp < l.stamp) es (above_head e es rising)) in
+    All-head Above s [] (subst (All Above) is all)
+
+record IsFirst (id s : ℕ) (es : List Entry) : Type 0 where
+  at : position_or_len (λ e. e.id == id) es ≡ prefix_len (λ e. nat_lt e.stamp s) es
+  within : prefix_len (λ e. nat_lt e.stamp s) es < length es
+
+-- the entry with the one stamp of an id stands behind those with lower stamps
+one_place : (id s : ℕ) (es : List Entry) → AreRising es → stamps_of id es ≡ s ∷ [] → IsFirst id s es
+one_place id s [] rising is = absurd (omega (arith, ap length is))
+one_place id s (e ∷ es) rising is = elim (cases_Bool (e.id == id)) [
+  | inl same ↦
+      let found : stamps_of id (e ∷ es) ≡ e.stamp ∷ stamps_of id es = rw same refl in
+      let joined : e.stamp ∷ stamps_of id es ≡ s ∷ [] = sym found ∙ is in
+      let stamp : e.stamp ≡ s = cc in
+      let not_below : nat_lt e.stamp s ≡ false = le-ltb e.stamp s (omega arith) in
+      record { at = rw (same, not_below) refl; within = rw not_below (omega arith) }
+  | inr other ↦
+      let rest : stamps_of id (e ∷ es) ≡ stamps_of id es = rw other refl in
+      let is_there : stamps_of id es ≡ s ∷ [] = sym rest ∙ is in
+      let below : nat_lt e.stamp s ≡ true = lt-ltb e.stamp s (above id s e es rising is_there) in
+      let behind = one_place id s es (tail_rises e es rising) is_there in
+      record { at = rw (other, below) (ap (λ n. 1 + n) behind.at); within = rw below (let h = behind.within in omega (arith, h)) }
+]
+
+pub place_within : (id s : ℕ) (es : List Entry) → AreRising es → stamps_of id es ≡ s ∷ [] → prefix_len (λ e. nat_lt e.stamp s) es < length (ids_of es)
+place_within id s es rising is = let first = one_place id s es rising is in omega (arith, first.within, length-map es (λ (e : Entry). e.id))
+
+pub its_place : (id s : ℕ) (es : List Entry) → AreRising es → stamps_of id es ≡ s ∷ [] → Some (prefix_len (λ e. nat_lt e.stamp s) es) ≡ position (λ i. i == id) (ids_of es)
+its_place id s es rising is =
+    let first = one_place id s es rising is in
+    let n = prefix_len (λ e. nat_lt e.stamp s) es in
+    let inside : nat_lt n (length es) ≡ true = lt-ltb n (length es) first.within in
+    let e : position (λ e. e.id == id) es ≡ Some n = ap (λ k. cond (nat_lt k (length es)) (Some k) None) first.at ∙ rw inside refl in
+    sym e ∙ same_place id es
+
+-- the ids without one are those of the entries without it
+pub ids_removed : (es : List Entry) (at : ℕ) → ids_of (remove es at) ≡ remove (ids_of es) at
+ids_removed es at =
+    let f : Entry → ℕ = λ e. e.id in
+    map-append f (take at es) (drop (suc at) es) ∙ ap (λ x. x ++ map f (drop (suc at) es)) (sym (take-map f at es)) ∙ ap (λ x. take at (map f es) ++ x) (sym (drop-map f (suc at) es))
+
+stamps-append : (id : ℕ) (front back : List Entry) → stamps_of id (front ++ back) ≡ stamps_of id front ++ stamps_of id back
+stamps-append id front back =
+    ap (map (λ (e : Entry). e.stamp)) (filter-append (λ (e : Entry). e.id == id) front back) ∙ map-append (λ (e : Entry). e.stamp) (filter (λ e. e.id == id) front) (filter (λ e. e.id == id) back)
+
+-- what is told of an id that lost one of its stamps
+lost : (place : Option Place) (front back : List ℕ) (s : ℕ) → HasStamps place (front ++ s ∷ back) → HasStamps (without_entry place) (front ++ back)
+lost None front back s is = absurd (omega (arith, ap length is, length-append front (s ∷ back)))
+lost (Some (places.Alone stamp)) front back s is = nil_from_length (front ++ back) (omega (arith, ap length is, length-append front (s ∷ back), length-append front back))
+lost (Some places.Several) front back s is = tt
+
+-- an entry is taken out, and what is told of its id follows it
+pub removed : (told now_told : ℕ → Option Place) (es : List Entry) (at : ℕ) (e : Entry) → at < length es → e ≡ get_or es at e → TellsStamps told es
+    → ((q : ℕ) → now_told q ≡ cond (e.id == q) (without_entry (told q)) (told q)) → TellsStamps now_told (remove es at)
+removed told now_told es at e within read found says q =
+    let front = stamps_of q (take at es) in
+    let back = stamps_of q (drop (suc at) es) in
+    let left : stamps_of q (remove es at) ≡ front ++ back = stamps-append q (take at es) (drop (suc at) es) in
+    let whole : es ≡ take at es ++ e ∷ drop (suc at) es =
+    sym (take-append-drop at es) ∙ ap (λ x. take at es ++ x) (drop-cons es at e within ∙ ap (λ x. x ∷ drop (suc at) es) (sym read)) in
+    let was : stamps_of q es ≡ front ++ stamps_of q (e ∷ drop (suc at) es) = ap (stamps_of q) whole ∙ stamps-append q (take at es) (e ∷ drop (suc at) es) in
+    elim (cases_Bool (e.id == q)) [
+      | inl same ↦
+          let its : stamps_of q (e ∷ drop (suc at) es) ≡ e.stamp ∷ back = rw same refl in
+          let had : HasStamps (told q) (front ++ e.stamp ∷ back) = subst (HasStamps (told q)) (was ∙ ap (λ x. front ++ x) its) (found q) in
+          let is : now_told q ≡ without_entry (told q) = says q ∙ rw same refl in
+          subst (λ o. HasStamps o (stamps_of q (remove es at))) (sym is) (subst (HasStamps (without_entry (told q))) (sym left) (lost (told q) front back e.stamp had))
+      | inr other ↦
+          let its : stamps_of q (e ∷ drop (suc at) es) ≡ back = rw other refl in
+          let had : HasStamps (told q) (front ++ back) = subst (HasStamps (told q)) (was ∙ ap (λ x. front ++ x) its) (found q) in
+          let is : now_told q ≡ told q = says q ∙ rw other refl in
+          subst (λ o. HasStamps o (stamps_of q (remove es at))) (sym is) (subst (HasStamps (told q)) (sym left) had)
+    ]
+
+-- stamps stay below a number when an entry is taken out
+pub below_removed : (next : ℕ) (es : List Entry) (at : ℕ) → AreBelow next es → AreBelow next (remove es at)
+below_removed next es at below =
+    let Below : Entry → Type 0 = λ e. e.stamp < next in
+    All-append Below (take at es) (drop (suc at) es) (All-take Below at es below) (All-drop Below (suc at) es below)

@@ -1,0 +1,7 @@
+-- What an index of ids shows.
+use Rattle.std.specs.Prelude.{ℕ, List}
+
+-- the ids in the order of the list, and for how many more there is memory
+pub record Indexed : Type 0 where
+  pub ids : List ℕ
+  pub room : ℕ

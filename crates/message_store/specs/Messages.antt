@@ -1,0 +1,14 @@
+-- Messages, and the index that finds them by their numbers.
+use Rattle.std.specs.Prelude.{◌≡◌, ℕ, ◌≤◌, List, map}
+use Rattle.queue_rows.specs.declared.rows.MsgRow.{MsgRow}
+use Rattle.message_store.specs.Indexed.{Indexed}
+use Rattle.message_store.specs.Rows.{Rows}
+
+-- the numbers of messages, in order
+abbrev pub ids_of : List MsgRow → List ℕ
+ids_of messages = map (λ m. m.id) messages
+
+-- the index tells the numbers of these messages, and has memory for as many more
+pub record IsIndexed (rows : Rows MsgRow) (index : Indexed) : Type 0 where
+  pub ids : index.ids ≡ ids_of rows.items
+  pub room : rows.room ≤ index.room

@@ -1,0 +1,212 @@
+// An index of messages by their ids.
+ghost use Rattle.std.specs.Prelude.{◌≡◌, ◌==◌, ◌+◌, ◌<◌, ◌≤◌, ℕ, [], ◌∷◌, ◌++◌, Some, IsTrue, IfSome, OnOk, OnErr, if◌then◌else◌, count_by, length, nat_eq, nat_lt, position, remove};
+ghost use Rattle.std.specs.HashMap.{get, hash_map_len, spare};
+ghost use Rattle.std.specs.List.{prefix_len};
+ghost use Rattle.message_store.specs.Stamps.{AreRising, with_entry, without_entry};
+
+use std::alloc::{AllocError, Global};
+use std::collections::HashMap;
+use std::marker::Model;
+
+/// An id in the list. Later entries have greater stamps.
+#[derive(Clone, Copy)]
+struct Entry {
+    id: u64,
+    stamp: u64,
+}
+
+/// Where an id stands.
+#[derive(Clone, Copy)]
+enum Place {
+    /// In one entry, the one with that stamp.
+    Alone(u64),
+    /// Maybe in several.
+    Several,
+}
+
+/// Where messages stand in a list, by their ids. Contracts see the ids in the order of the list, and for how many more there is
+/// memory.
+#[derive(Drop)]
+pub(crate) struct MessageIndex {
+    entries: Vec<Entry>,
+    places: HashMap<u64, Place>,
+    next: u64,
+    room: usize,
+}
+
+impl Model for MessageIndex {
+    ghost use Rattle.std.specs.Prelude.{◌+◌, ◌<◌, ◌≤◌, ◌^◌, nat_eq, vec_len, vec_capacity};
+    ghost use Rattle.std.specs.HashMap.{get, hash_map_len, spare};
+    ghost use Rattle.message_store.specs.Indexed.{Indexed};
+
+    ghost Value = { Indexed };
+
+    ghost use Rattle.message_store.specs.Stamps.{ids_of, AreRising, AreBelow, TellsStamps};
+
+    ghost view = { λ i. record { ids = ids_of i.entries.items; room = i.room } };
+
+    ghost invariant = { λ i. AreRising i.entries.items × AreBelow i.next i.entries.items × TellsStamps (get nat_eq i.places) i.entries.items × (vec_len i.entries + i.room ≤ vec_capacity i.entries) × (i.room ≤ spare i.places) × (vec_len i.entries + i.room ≤ hash_map_len i.places + spare i.places) × (i.next + i.room < 2 ^ 64) };
+}
+
+impl MessageIndex {
+    /// No ids, and memory for none. It takes no memory.
+    pub(crate) fn new(alloc: Global) -> MessageIndex
+        ensures { result ≡ record { ids = []; room = 0 } }
+    {
+        MessageIndex {
+            entries: Vec::new(alloc),
+            places: HashMap::new(alloc),
+            next: 0,
+            room: 0,
+        }
+    }
+
+    /// Takes memory for so many more ids. There is none past 2^64 stamps.
+    pub(crate) fn reserve(&mut self, room: usize) -> Result<(), AllocError>
+        ensures ids { self.new.ids ≡ self.old.ids }
+        ensures ok { OnOk result (room ≤ self.new.room) }
+        ensures err { OnErr result (self.new.room ≡ self.old.room) }
+    {
+        if self.next.checked_add(room as u64).is_none() {
+            return Err(AllocError);
+        }
+        self.entries.reserve(room)?;
+        let keyless = self.entries.len().saturating_sub(self.places.len());
+        self.places.reserve(keyless + room)?;
+        self.room = room;
+        Ok(())
+    }
+
+    /// Where the first of that id stands. It takes no memory.
+    pub(crate) fn position(&self, id: u64) -> Option<usize>
+        ensures first { result ≡ position (λ i. i == id) self.now.ids }
+        ensures within { IfSome result (λ at. at < length self.now.ids) }
+    {
+        match self.places.get(&id) {
+            None => None,
+            Some(Place::Alone(stamp)) => Some(count_before(self.entries.as_slice(), *stamp)),
+            Some(Place::Several) => first_of(self.entries.as_slice(), id),
+        }
+    }
+
+    /// Whether at most one stands there with that id. It may say no where that is so, and yes only where it is so.
+    pub(crate) fn is_alone(&self, id: u64) -> bool
+        ensures { IsTrue result → count_by (λ i. i == id) self.now.ids ≤ 1 }
+    {
+        match self.places.get(&id) {
+            None => true,
+            Some(Place::Alone(_)) => true,
+            Some(Place::Several) => false,
+        }
+    }
+
+    /// Puts an id last. It takes no memory.
+    pub(crate) fn push(&mut self, id: u64)
+        requires { 0 < self.old.room }
+        ensures ids { self.new.ids ≡ self.old.ids ++ id ∷ [] }
+        ensures room { self.old.room ≡ self.new.room + 1 }
+    {
+        let entry = Entry {
+            id,
+            stamp: self.next,
+        };
+        note(&mut self.places, entry);
+        let Ok(()) = self.entries.push(entry) else {
+            unreachable!()
+        };
+        self.next += 1;
+        self.room -= 1;
+    }
+
+    /// Takes the id at an index out. It takes no memory.
+    pub(crate) fn remove(&mut self, at: usize)
+        requires { at < length self.old.ids }
+        ensures ids { self.new.ids ≡ remove self.old.ids at }
+        ensures room { self.new.room ≡ self.old.room }
+    {
+        let entry = self.entries.remove(at);
+        forget(&mut self.places, entry.id);
+    }
+
+    /// Takes all ids out, and keeps their memory. It takes no memory.
+    pub(crate) fn clear(&mut self)
+        ensures ids { self.new.ids ≡ [] }
+        ensures room { self.new.room ≡ self.old.room + length self.old.ids }
+    {
+        self.room += self.entries.len();
+        self.entries.clear();
+        self.places.clear();
+        self.next = 0;
+    }
+}
+
+// How many of the first entries have lower stamps, found by halves.
+fn count_before(entries: &[Entry], stamp: u64) -> usize
+    requires { AreRising entries.now }
+    ensures { result ≡ prefix_len (λ e. nat_lt e.stamp stamp) entries.now }
+{
+    entries.partition_point(|entry| entry.stamp < stamp)
+}
+
+fn first_of(entries: &[Entry], id: u64) -> Option<usize>
+    ensures { result ≡ position (λ e. e.id == id) entries.now }
+{
+    entries.iter().position(|entry| entry.id == id)
+}
+
+// Keeps of an id that it has one more entry.
+fn note(places: &mut HashMap<u64, Place>, entry: Entry)
+    requires { 0 < spare places.old }
+    ensures places { (id : ℕ) → get nat_eq places.new id ≡ (if entry.id == id then Some (with_entry entry.stamp (get nat_eq places.old id)) else get nat_eq places.old id) }
+    ensures room { spare places.old ≤ spare places.new + 1 }
+    ensures all { hash_map_len places.old + spare places.old ≤ hash_map_len places.new + spare places.new }
+{
+    if let Some(place) = places.get_mut(&entry.id) {
+        *place = Place::Several;
+        return;
+    }
+    let Ok(_) = places.insert(entry.id, Place::Alone(entry.stamp)) else {
+        unreachable!()
+    };
+}
+
+// Keeps of an id that it has one entry less.
+fn forget(places: &mut HashMap<u64, Place>, id: u64)
+    ensures places { (q : ℕ) → get nat_eq places.new q ≡ (if id == q then without_entry (get nat_eq places.old q) else get nat_eq places.old q) }
+    ensures room { spare places.old ≤ spare places.new }
+    ensures all { hash_map_len places.old + spare places.old ≤ hash_map_len places.new + spare places.new + 1 }
+{
+    if let Some(Place::Alone(_)) = places.get(&id) {
+        places.remove(&id);
+    }
+}
+
+#[cfg(test)]
+mod tests {
+    use super::*;
+    use std::test::Fail;
+
+    fn positions(index: &MessageIndex) -> [Option<usize>; 3] {
+        [index.position(5), index.position(7), index.position(9)]
+    }
+
+    #[test]
+    fn places_follow_the_list(rt: HostRuntime) -> Result<(), Fail> {
+        let mut index = MessageIndex::new(rt.alloc());
+        index.reserve(5)?;
+        index.push(5);
+        index.push(7);
+        index.push(9);
+        assert_eq!(rt; positions(&index), [Some(0), Some(1), Some(2)]);
+        index.remove(1);
+        assert_eq!(rt; positions(&index), [Some(0), None, Some(1)]);
+        index.push(7);
+        index.push(7);
+        assert_eq!(rt; positions(&index), [Some(0), Some(2), Some(1)]);
+        assert!(rt; index.is_alone(5));
+        assert!(rt; !index.is_alone(7));
+        index.clear();
+        assert_eq!(rt; positions(&index), [None, None, None]);
+        Ok(())
+    }
+}
