@@ -20,8 +20,7 @@ use exception_queues::{find_queue, find_table};
 use message_store::Store;
 use payload_records::List;
 use queue_rows::{
-    Change, Dequeue, Mode, MsgRow, Navigation, Pending, QueueRow, Reply, TableRow, Tables,
-    Visibility,
+    Change, Dequeue, Mode, MsgRow, Navigation, Pending, QueueRow, Reply, TableRow, Visibility,
 };
 use row_locks::{Mark, RowLocks};
 use sessions::{Effect, PositionMove, SessionState, Verdict, changes_of};
@@ -31,7 +30,7 @@ use std::alloc::{AllocError, Global};
 #[derive(Clone, Copy)]
 struct Look<'a> {
     alloc: Global,
-    tables: &'a Tables,
+    store: &'a Store,
     locks: &'a RowLocks,
     actor: u32,
     session: &'a SessionState,
@@ -119,17 +118,17 @@ fn removal_alone(alloc: Global, id: u64, slot: u32) -> Result<List<Pending>, All
 
 fn removal(
     alloc: Global,
-    tables: &Tables,
+    store: &Store,
     moment: u64,
     id: u64,
     slot: u32,
 ) -> Result<List<Change>, AllocError>
-    requires { CanCommit tables.now moment }
-    ensures changes { IfOk result (λ changes. changes ≡ commit_of tables.now moment (Remove id slot ∷ [])) }
+    requires { CanCommit store.now moment }
+    ensures changes { IfOk result (λ changes. changes ≡ commit_of store.now moment (Remove id slot ∷ [])) }
     ensures within { IfOk result (λ changes. (n g r : ℕ) → All (IsWithin n g r) changes) }
 {
     let pending = removal_alone(alloc, id, slot)?;
-    changes_of(tables, &pending, moment)
+    changes_of(store, &pending, moment)
 }
 
 fn taking_at_once(
@@ -139,11 +138,11 @@ fn taking_at_once(
     id: u64,
     slot: u32,
 ) -> Result<Effect, AllocError>
-    requires { CanCommit look.tables.now look.moment }
-    ensures is { IfOk result (λ e. e ≡ taking_at_once look.entry.tables.now look.entry.moment reply position id slot) }
+    requires { CanCommit look.store.now look.moment }
+    ensures is { IfOk result (λ e. e ≡ taking_at_once look.entry.store.now look.entry.moment reply position id slot) }
     ensures within { IfOk result KeepsWithin }
 {
-    let commit = removal(look.alloc, look.tables, look.moment, id, slot)?;
+    let commit = removal(look.alloc, look.store, look.moment, id, slot)?;
     Ok(Effect {
         verdict: Verdict::Answer(reply),
         commit,
@@ -161,8 +160,8 @@ fn giving_in(
     id: u64,
     slot: u32,
 ) -> Result<Effect, AllocError>
-    requires { CanCommit look.tables.now look.moment }
-    ensures is { IfOk result (λ e. e ≡ giving_in look.entry.ask.now.mode look.entry.ask.now.visibility look.entry.tables.now look.entry.moment reply position id slot) }
+    requires { CanCommit look.store.now look.moment }
+    ensures is { IfOk result (λ e. e ≡ giving_in look.entry.ask.now.mode look.entry.ask.now.visibility look.entry.store.now look.entry.moment reply position id slot) }
     ensures within { IfOk result KeepsWithin }
 {
     match (look.ask.mode, look.ask.visibility) {
@@ -185,8 +184,8 @@ fn giving(
     table: &TableRow,
     message: &MsgRow,
 ) -> Result<Effect, AllocError>
-    requires { CanCommit look.tables.now look.moment }
-    ensures is { IfOk result (λ e. e ≡ giving look.entry.tables.now look.entry.session.now.at queue.now table.now look.entry.ask.now look.entry.moment message.now) }
+    requires { CanCommit look.store.now look.moment }
+    ensures is { IfOk result (λ e. e ≡ giving look.entry.store.now look.entry.session.now.at queue.now table.now look.entry.ask.now look.entry.moment message.now) }
     ensures within { IfOk result KeepsWithin }
 {
     let slot = own_slot(queue);
@@ -203,8 +202,8 @@ fn effect_by(
     table: &TableRow,
     message: Option<&MsgRow>,
 ) -> Result<Effect, AllocError>
-    requires { CanCommit look.tables.now look.moment }
-    ensures is { IfOk result (λ e. e ≡ effect_by look.entry.tables.now look.entry.session.now.at queue.now table.now look.entry.ask.now look.entry.moment (option_copied message.entry)) }
+    requires { CanCommit look.store.now look.moment }
+    ensures is { IfOk result (λ e. e ≡ effect_by look.entry.store.now look.entry.session.now.at queue.now table.now look.entry.ask.now look.entry.moment (option_copied message.entry)) }
     ensures within { IfOk result KeepsWithin }
 {
     match message {
@@ -221,8 +220,8 @@ fn effect_in(
     queue: &QueueRow,
     table: Option<&TableRow>,
 ) -> Result<Effect, AllocError>
-    requires { CanCommit look.tables.now look.moment }
-    ensures is { IfOk result (λ e. e ≡ effect_in look.entry.tables.now look.entry.locks.now look.entry.actor look.entry.session.now.at look.entry.session.now.positions queue.now (option_copied table.entry) look.entry.ask.now look.entry.moment) }
+    requires { CanCommit look.store.now look.moment }
+    ensures is { IfOk result (λ e. e ≡ effect_in look.entry.store.now look.entry.locks.now look.entry.actor look.entry.session.now.at look.entry.session.now.positions queue.now (option_copied table.entry) look.entry.ask.now look.entry.moment) }
     ensures within { IfOk result KeepsWithin }
 {
     let Some(table) = table else {
@@ -240,13 +239,13 @@ fn effect_in(
         look,
         queue,
         table,
-        choose(reach, begin, &look.tables.messages),
+        choose(reach, begin, &look.store.tables().messages),
     )
 }
 
 fn effect_from(look: Look<'_>, queue: Option<&QueueRow>) -> Result<Effect, AllocError>
-    requires { CanCommit look.tables.now look.moment }
-    ensures is { IfOk result (λ e. e ≡ effect_from look.entry.tables.now look.entry.locks.now look.entry.actor look.entry.session.now.at look.entry.session.now.positions (option_copied queue.entry) look.entry.ask.now look.entry.moment) }
+    requires { CanCommit look.store.now look.moment }
+    ensures is { IfOk result (λ e. e ≡ effect_from look.entry.store.now look.entry.locks.now look.entry.actor look.entry.session.now.at look.entry.session.now.positions (option_copied queue.entry) look.entry.ask.now look.entry.moment) }
     ensures within { IfOk result KeepsWithin }
 {
     let Some(queue) = queue else {
@@ -255,15 +254,17 @@ fn effect_from(look: Look<'_>, queue: Option<&QueueRow>) -> Result<Effect, Alloc
     if !queue.dequeue {
         return Ok(refusing(look.alloc, Reply::DequeueOff));
     }
-    effect_in(look, queue, find_table(look.tables, &queue.table))
+    let table = find_table(look.store.tables(), &queue.table);
+    effect_in(look, queue, table)
 }
 
 fn effect_of(look: Look<'_>) -> Result<Effect, AllocError>
-    requires { CanCommit look.tables.now look.moment }
-    ensures is { IfOk result (λ e. e ≡ effect_of look.entry.tables.now look.entry.locks.now look.entry.actor look.entry.session.now.at look.entry.session.now.positions look.entry.ask.now look.entry.moment) }
+    requires { CanCommit look.store.now look.moment }
+    ensures is { IfOk result (λ e. e ≡ effect_of look.entry.store.now look.entry.locks.now look.entry.actor look.entry.session.now.at look.entry.session.now.positions look.entry.ask.now look.entry.moment) }
     ensures within { IfOk result KeepsWithin }
 {
-    effect_from(look, find_queue(look.tables, &look.ask.queue))
+    let queue = find_queue(look.store.tables(), &look.ask.queue);
+    effect_from(look, queue)
 }
 
 /// What a dequeue of the session of that number does, where the locks keep the marks of the sessions of its database.
@@ -292,7 +293,7 @@ pub fn dequeue(
 {
     let look = Look {
         alloc,
-        tables: store.tables(),
+        store,
         locks,
         actor,
         session,

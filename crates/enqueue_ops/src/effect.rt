@@ -17,9 +17,7 @@ use aq_base::{DbId, NEXT_LIMIT};
 use exception_queues::{find_queue, find_table, is_exception};
 use message_store::Store;
 use payload_records::{List, PayloadFault, Record};
-use queue_rows::{
-    Change, Enqueue, LimitName, MsgId, MsgRow, Pending, Reply, TableRow, Tables, Visibility,
-};
+use queue_rows::{Change, Enqueue, LimitName, MsgId, MsgRow, Pending, Reply, TableRow, Visibility};
 use sessions::{Effect, PositionMove, SessionState, Verdict, changes_of};
 use std::alloc::{AllocError, Global};
 
@@ -53,7 +51,7 @@ fn refused(alloc: Global, reply: Reply) -> Effect
 /// The message is added as a transaction of its own, or kept with the session until it commits.
 fn add(
     alloc: Global,
-    tables: &Tables,
+    store: &Store,
     at: DbId,
     visibility: Visibility,
     message: MsgRow,
@@ -61,13 +59,13 @@ fn add(
 ) -> Result<Effect, AllocError>
     requires new { IsNewAddition message.id message }
     requires id { message.id < 2 ^ 61 }
-    requires queues { All IsQueueWithin tables.now.queues }
-    requires transaction { tables.now.transaction ≤ message.id }
+    requires queues { All IsQueueWithin store.now.queues }
+    requires transaction { store.now.transaction ≤ message.id }
     requires moment { moment ≤ 2 ^ 62 }
-    ensures means { IfOk result (λ e. (s : Session) → s.at ≡ at → (queue : Sequence ℕ) (consumer : Choice (Sequence ℕ)) → add visibility tables.now s message moment ≡ meant e queue consumer moment s) }
+    ensures means { IfOk result (λ e. (s : Session) → s.at ≡ at → (queue : Sequence ℕ) (consumer : Choice (Sequence ℕ)) → add visibility store.now s message moment ≡ meant e queue consumer moment s) }
     ensures answered { IfOk result (λ e. IsAnswered e.verdict) }
     ensures one { IfOk result (λ e. ids_of e.verdict ≡ 1) }
-    ensures within { IfOk result (λ e. (r : ℕ) → All (IsWithin (message.id + 1) (tables.now.transaction + 1) r) e.commit) }
+    ensures within { IfOk result (λ e. (r : ℕ) → All (IsWithin (message.id + 1) (store.now.transaction + 1) r) e.commit) }
     ensures adds { IfOk result (λ e. IfSome e.pend (AddsNew message.id)) }
     ensures later { IfOk result (λ e. IfSome e.pend (λ p. e.commit ≡ [])) }
     ensures unmarked { IfOk result (λ e. e.mark ≡ None) }
@@ -81,7 +79,7 @@ fn add(
         Visibility::Immediate => {
             let mut pending = List::new(alloc);
             pending.push(Pending::Add(message))?;
-            Ok(effect(reply, changes_of(tables, &pending, moment)?, None))
+            Ok(effect(reply, changes_of(store, &pending, moment)?, None))
         }
     }
 }
@@ -89,7 +87,7 @@ fn add(
 /// Where the record is read: the message is added, if an id is left for it.
 fn add_read(
     alloc: Global,
-    tables: &Tables,
+    store: &Store,
     at: DbId,
     table: &TableRow,
     ask: &Enqueue,
@@ -98,16 +96,16 @@ fn add_read(
 ) -> Result<Effect, AllocError>
     requires plain { IsPlainEnqueue ask.now }
     requires table { IsPlainTable table.now }
-    requires queues { All IsQueueWithin tables.now.queues }
-    requires transaction { tables.now.transaction ≤ stamp.id }
+    requires queues { All IsQueueWithin store.now.queues }
+    requires transaction { store.now.transaction ≤ stamp.id }
     requires id { stamp.id ≤ 2 ^ 61 }
     requires moment { stamp.moment ≤ 2 ^ 62 }
     ensures means { IfOk result (λ e. (s : Session) → s.at ≡ at → (queue : Sequence ℕ) (consumer : Choice (Sequence ℕ))
-        → enqueue_cells tables.now s table.now ask.now (Ok cells) stamp.id stamp.moment ≡ meant e queue consumer stamp.moment s) }
+        → enqueue_cells store.now s table.now ask.now (Ok cells) stamp.id stamp.moment ≡ meant e queue consumer stamp.moment s) }
     ensures answered { IfOk result (λ e. IsAnswered e.verdict) }
     ensures one { IfOk result (λ e. ids_of e.verdict ≤ 1) }
     ensures limit { IfOk result (λ e. stamp.id + ids_of e.verdict ≤ 2 ^ 61) }
-    ensures within { IfOk result (λ e. (r : ℕ) → All (IsWithin (stamp.id + ids_of e.verdict) (tables.now.transaction + ids_of e.verdict) r) e.commit) }
+    ensures within { IfOk result (λ e. (r : ℕ) → All (IsWithin (stamp.id + ids_of e.verdict) (store.now.transaction + ids_of e.verdict) r) e.commit) }
     ensures adds { IfOk result (λ e. IfSome e.pend (AddsNew stamp.id)) }
     ensures later { IfOk result (λ e. IfSome e.pend (λ p. (e.commit ≡ []) × (ids_of e.verdict ≡ 1))) }
     ensures unmarked { IfOk result (λ e. e.mark ≡ None) }
@@ -116,13 +114,13 @@ fn add_read(
         return Ok(refused(alloc, Reply::Limit(LimitName::Ids)));
     }
     let message = addition(alloc, table, ask, cells, stamp)?;
-    add(alloc, tables, at, ask.visibility, message, stamp.moment)
+    add(alloc, store, at, ask.visibility, message, stamp.moment)
 }
 
 /// Reads the payload as a record of the table, and adds the message.
 fn read_and_add(
     alloc: Global,
-    tables: &Tables,
+    store: &Store,
     at: DbId,
     table: &TableRow,
     ask: &Enqueue,
@@ -130,22 +128,22 @@ fn read_and_add(
 ) -> Result<Effect, AllocError>
     requires plain { IsPlainEnqueue ask.now }
     requires table { IsPlainTable table.now }
-    requires queues { All IsQueueWithin tables.now.queues }
-    requires transaction { tables.now.transaction ≤ stamp.id }
+    requires queues { All IsQueueWithin store.now.queues }
+    requires transaction { store.now.transaction ≤ stamp.id }
     requires id { stamp.id ≤ 2 ^ 61 }
     requires moment { stamp.moment ≤ 2 ^ 62 }
     ensures means { IfOk result (λ e. (s : Session) → s.at ≡ at → (queue : Sequence ℕ) (consumer : Choice (Sequence ℕ))
-        → enqueue_cells tables.now s table.now ask.now (record_of table.now.fields ask.now.payload) stamp.id stamp.moment ≡ meant e queue consumer stamp.moment s) }
+        → enqueue_cells store.now s table.now ask.now (record_of table.now.fields ask.now.payload) stamp.id stamp.moment ≡ meant e queue consumer stamp.moment s) }
     ensures answered { IfOk result (λ e. IsAnswered e.verdict) }
     ensures one { IfOk result (λ e. ids_of e.verdict ≤ 1) }
     ensures limit { IfOk result (λ e. stamp.id + ids_of e.verdict ≤ 2 ^ 61) }
-    ensures within { IfOk result (λ e. (r : ℕ) → All (IsWithin (stamp.id + ids_of e.verdict) (tables.now.transaction + ids_of e.verdict) r) e.commit) }
+    ensures within { IfOk result (λ e. (r : ℕ) → All (IsWithin (stamp.id + ids_of e.verdict) (store.now.transaction + ids_of e.verdict) r) e.commit) }
     ensures adds { IfOk result (λ e. IfSome e.pend (AddsNew stamp.id)) }
     ensures later { IfOk result (λ e. IfSome e.pend (λ p. (e.commit ≡ []) × (ids_of e.verdict ≡ 1))) }
     ensures unmarked { IfOk result (λ e. e.mark ≡ None) }
 {
     match Record::from_json(alloc, &table.fields, &ask.payload) {
-        Ok(cells) => add_read(alloc, tables, at, table, ask, cells, stamp),
+        Ok(cells) => add_read(alloc, store, at, table, ask, cells, stamp),
         Err(PayloadFault::Memory) => Err(AllocError),
         Err(fault) => Ok(refused(alloc, Reply::Payload(fault))),
     }
@@ -191,7 +189,7 @@ pub fn enqueue(
     };
     read_and_add(
         alloc,
-        tables,
+        store,
         session.at,
         table,
         ask,

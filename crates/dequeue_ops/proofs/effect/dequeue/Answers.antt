@@ -12,7 +12,7 @@ returns-clause-means c =
     (λ e same sessions s are mine is.
     effect-means c.args.store.now c.args.locks.now c.args.actor c.args.session.now c.args.ask.now c.args.moment c.requires.plain c.requires.tables c.requires.unparked sessions s are mine is
     ∙ ap (λ (x : Effect). meant x c.args.ask.now.queue c.args.ask.now.consumer c.args.moment s) (sym same))
-    (rw c.tables.ensures at c.effect_of.ensures.is)
+    c.effect_of.ensures.is
 
 pub returns-clause-no_id : goal.returns-clause-no_id
 returns-clause-no_id c =
@@ -20,7 +20,7 @@ returns-clause-no_id c =
     (λ e same.
     let P : Effect → Type 0 = IsLawful c.args.locks.now c.args.actor in
     (subst P (sym same) (lawful c.args.locks.now c.args.actor c.args.store.now c.args.session.now.at c.args.session.now.positions c.args.ask.now c.args.moment)).no_id)
-    (rw c.tables.ensures at c.effect_of.ensures.is)
+    c.effect_of.ensures.is
 
 pub returns-clause-free : goal.returns-clause-free
 returns-clause-free c =
@@ -28,4 +28,4 @@ returns-clause-free c =
     (λ e same.
     let P : Effect → Type 0 = IsLawful c.args.locks.now c.args.actor in
     (subst P (sym same) (lawful c.args.locks.now c.args.actor c.args.store.now c.args.session.now.at c.args.session.now.positions c.args.ask.now c.args.moment)).free)
-    (rw c.tables.ensures at c.effect_of.ensures.is)
+    c.effect_of.ensures.is

@@ -16,5 +16,5 @@ returns-clause-within c =
     let alone : c.in_ok-pending.pending ≡ Remove c.args.id c.args.slot ∷ [] = c.in_ok-pending.ensures in
     within_all c.changes_of.result
     (λ n g r.
-    let P : List Pending → Type 0 = All (IsPendingWithin n g r c.args.tables.now.transaction) in
-    c.changes_of.ensures.within n g r (subst P (sym alone) (All-cons (IsPendingWithin n g r c.args.tables.now.transaction) (Remove c.args.id c.args.slot) [] tt (All-nil (IsPendingWithin n g r c.args.tables.now.transaction)))))
+    let P : List Pending → Type 0 = All (IsPendingWithin n g r c.args.store.now.transaction) in
+    c.changes_of.ensures.within n g r (subst P (sym alone) (All-cons (IsPendingWithin n g r c.args.store.now.transaction) (Remove c.args.id c.args.slot) [] tt (All-nil (IsPendingWithin n g r c.args.store.now.transaction)))))

@@ -1,8 +1,7 @@
-use Rattle.std.proofs.Common.{All, ap, sym, subst, ◌∙◌, ◌+◌, ℕ}
-use Rattle.std.specs.Prelude.{IfOk, Some, find, option_copied}
+use Rattle.std.proofs.Common.{All, ap, sym, subst, ◌∙◌}
+use Rattle.std.specs.Prelude.{find, option_copied}
 use Rattle.std.specs.Str.{bytes_eq}
-use Rattle.sessions.specs.Effects.{ids_of}
-use Rattle.sessions.specs.Within.{IsPlainTable, IsWithin}
+use Rattle.sessions.specs.Within.{IsPlainTable}
 use Rattle.sessions.proofs.Each.{found_each}
 use Rattle.enqueue_ops.proofs.Adding.{of_some}
 use Rattle.enqueue_ops.proofs.effect.enqueue.Goals as goal
@@ -13,6 +12,3 @@ read_and_add-requires-clause-table c =
     let here = subst (λ t. All IsPlainTable t.tables) (sym c.tables-tables.ensures) c.requires.tables in
     let found = sym c.find_table.ensures ∙ ap option_copied c.in-Some-find_table.is in
     of_some IsPlainTable (find (λ r. bytes_eq r.name name) c.tables-tables.result.now.tables) c.in-Some-find_table.table.now found (found_each IsPlainTable (λ r. bytes_eq r.name name) c.tables-tables.result.now.tables here)
-
-pub returns-clause-within : goal.returns-clause-within
-returns-clause-within c = subst (λ t. IfOk c.read_and_add.result (λ e. (r : ℕ) → All (IsWithin (c.args.next + ids_of e.verdict) (t.transaction + ids_of e.verdict) r) e.commit)) c.tables-tables.ensures c.read_and_add.ensures.within
