@@ -156,7 +156,7 @@ fn commit_deed(side: &Side, seat: &Seat, moment: u64) -> Result<Deed, AllocError
     let _limit = side.next();
     Ok(Deed {
         reply: Reply::Ok,
-        commit: commit_changes(side.store().tables(), seat.state(), moment)?,
+        commit: commit_changes(side.store(), seat.state(), moment)?,
         holdings: Holdings::Settled,
         positions: None,
     })
@@ -172,7 +172,7 @@ fn rollback_deed(alloc: Global, side: &Side, seat: &Seat, moment: u64) -> Result
     let _limit = side.next();
     Ok(Deed {
         reply: Reply::Ok,
-        commit: rollback_changes(side.store().tables(), seat.state(), moment)?,
+        commit: rollback_changes(side.store(), seat.state(), moment)?,
         holdings: Holdings::Settled,
         positions: Some(List::new(alloc)),
     })
