@@ -21,7 +21,7 @@ course_after t cs id = record { message = message_after t cs id; moment = last_m
 abbrev pub next_course : ℕ → Change → Course → Course
 next_course id c course = record { message = left_some course.message c; moment = moment_by id course.moment c }
 
--- that of a message that they name
+-- the course of a message that the changes name; others have none
 abbrev pub course_if_named : Tables → List Change → ℕ → Option Course
 course_if_named t cs id = if list_any (λ n. n == id) (names_of cs) then Some (course_after t cs id) else None
 
