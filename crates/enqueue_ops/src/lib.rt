@@ -5,3 +5,6 @@ mod addition;
 mod effect;
 
 pub use effect::enqueue;
+
+#[cfg(test)]
+mod tests;
