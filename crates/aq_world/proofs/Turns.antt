@@ -1,5 +1,5 @@
 -- What the turn of a session makes of a world, by what the session is like.
-use Rattle.std.proofs.Common.{◌≡◌, ◌⊎◌, inl, inr, ℕ, true, Option, Some, None, Result, option_map, refl, sym, ap, subst, ◌∙◌, arith}
+use Rattle.std.proofs.Common.{◌≡◌, inl, inr, ℕ, true, Option, Some, None, Result, option_map, refl, sym, ap, subst, ◌∙◌, arith}
 use Rattle.std.specs.Prelude.{Ok, Err, OnOk, OnErr, MatchResult, IfSome, slice_get, is_some}
 use Rattle.queue_rows.specs.Session.{Session, Untold}
 use Rattle.queue_rows.specs.Statements.{next_statement}

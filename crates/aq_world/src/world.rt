@@ -13,6 +13,7 @@ ghost use Rattle.aq_world.specs.Sound.{IsRead};
 ghost use Rattle.aq_world.specs.Turning.{IsActor, IsWhole, IsEnd, IsBrokenOff, IsUntold, turned, has_ended, is_over, is_owed};
 ghost use Rattle.aq_world.specs.declared.turn_end.TurnEnd.TheVariants.{Done, Idle, Ended, Memory};
 
+use crate::booking::Booking;
 use crate::calling::take_over_at;
 use crate::deed::Deed;
 use crate::respond::respond;
@@ -208,26 +209,28 @@ impl World {
         } = deed;
         let ids = ids_taken(&reply);
         let (home, away) = commit_lists(self.alloc, db, commit);
-        let entry = Entry {
-            actor: at,
-            moment: self.moment,
-            readings: self.readings,
-            home_calls: 0,
-            away_calls: 0,
-            home,
-            away,
-            step: Step::Call { number, reply },
+        let booking = Booking {
+            session: at,
+            db,
+            entry: Entry {
+                actor: at,
+                moment: self.moment,
+                readings: self.readings,
+                home_calls: 0,
+                away_calls: 0,
+                home,
+                away,
+                step: Step::Call { number, reply },
+            },
+            ids,
         };
         take_over_at(
             &mut self.seats,
             &mut self.home,
             &mut self.away,
             &mut self.history.entries,
-            db,
-            at,
-            entry,
+            booking,
             holdings,
-            ids,
         )?;
         self.seats
             .call(at, positions, self.home.made(), self.away.made());

@@ -11,14 +11,14 @@ use Rattle.aq_world.proofs.calling.take_over.Goals as goal
 pub take-requires-clause-free : goal.take-requires-clause-free
 take-requires-clause-free c =
     let f = λ (s : Session). record s { pending = pending_with c.in-Kept.pend s.pending } in
-    let sessions : c.keep.new.seats.sessions ≡ changed_at c.args.at f c.make_room.new.seats.sessions = c.in_ok-keep-in-Kept.ensures.sessions in
-    let free : IfSome c.in-Kept.mark (λ m. IsFreeIn c.args.at m c.args.seats.now.sessions) = subst (λ h. IfSome (mark_of h) (λ m. IsFreeIn c.args.at m c.args.seats.now.sessions)) c.in-Kept.is c.requires.free in
-    let moved : IfSome c.in-Kept.mark (λ m. IsFreeIn c.args.at m c.make_room.new.seats.sessions) = subst (λ ss. IfSome c.in-Kept.mark (λ m. IsFreeIn c.args.at m ss)) (sym c.in_ok-make_room.ensures.sessions) free in
-    room_then c.in-Kept.mark (λ m h. subst (IsFreeIn c.args.at m) (sym sessions) (free_kept f c.make_room.new.seats.sessions c.args.at m (λ s. refl) (λ s. refl) h)) moved
+    let sessions : c.keep.new.seats.sessions ≡ changed_at c.args.booking.session f c.make_room.new.seats.sessions = c.in_ok-keep-in-Kept.ensures.sessions in
+    let free : IfSome c.in-Kept.mark (λ m. IsFreeIn c.args.booking.session m c.args.seats.now.sessions) = subst (λ h. IfSome (mark_of h) (λ m. IsFreeIn c.args.booking.session m c.args.seats.now.sessions)) c.in-Kept.is c.requires.free in
+    let moved : IfSome c.in-Kept.mark (λ m. IsFreeIn c.args.booking.session m c.make_room.new.seats.sessions) = subst (λ ss. IfSome c.in-Kept.mark (λ m. IsFreeIn c.args.booking.session m ss)) (sym c.in_ok-make_room.ensures.sessions) free in
+    room_then c.in-Kept.mark (λ m h. subst (IsFreeIn c.args.booking.session m) (sym sessions) (free_kept f c.make_room.new.seats.sessions c.args.booking.session m (λ s. refl) (λ s. refl) h)) moved
 
 pub returns-in_ok-keep-in-Kept-clause-sessions : goal.returns-in_ok-keep-in-Kept-clause-sessions
 returns-in_ok-keep-in-Kept-clause-sessions c =
-    let i = c.args.at in
+    let i = c.args.booking.session in
     let f = λ (s : Session). record s { pending = pending_with c.in-Kept.pend s.pending } in
     let g = λ (s : Session). record s { marks = marks_with c.in-Kept.mark s.marks } in
     let h = λ (s : Session). record s { marks = marks_without c.in-Kept.unmark s.marks } in
