@@ -3,7 +3,6 @@ pub mod Calls
 pub mod Changing
 pub mod Deeding
 pub mod Going
-pub mod Later
 pub mod Pacing
 pub mod Showing
 pub mod Siding

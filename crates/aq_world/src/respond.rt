@@ -137,7 +137,7 @@ fn dequeue_deed(
     ensures means { IfOk result (λ d. (sessions : Sequence Session) (s : Session) → AreMarks s.at sessions locks.now → slice_get sessions actor ≡ Some s → unmarked seat.now ≡ unmarked s
         → dequeue side.now.tables sessions actor s ask.now moment ≡ deed_meant d s) }
     ensures fits { IfOk result (IsFit side.now seat.now.pending) }
-    ensures later { IfOk result (λ d. (sessions : Sequence Session) (s : Session) → AreMarks s.at sessions locks.now → slice_get sessions actor ≡ Some s → unmarked seat.now ≡ unmarked s → IsLater d) }
+    ensures later { IfOk result IsLater }
     ensures free { IfOk result (λ d. IfSome (mark_of d.holdings) (IsFreeFor locks.now actor)) }
 {
     let _limit = side.next();
@@ -198,7 +198,7 @@ pub fn respond(
     ensures means { IfOk result (λ d. (w : World) (s : Session) → database_at s.at w ≡ side.now → w.moment ≡ moment → AreMarks s.at w.sessions locks.now → slice_get w.sessions actor ≡ Some s
         → unmarked seat.now ≡ unmarked s → meaning w actor s statement.now ≡ deed_meant d s) }
     ensures fits { IfOk result (IsFit side.now seat.now.pending) }
-    ensures later { IfOk result (λ d. (sessions : Sequence Session) (s : Session) → AreMarks s.at sessions locks.now → slice_get sessions actor ≡ Some s → unmarked seat.now ≡ unmarked s → IsLater d) }
+    ensures later { IfOk result IsLater }
     ensures free { IfOk result (λ d. IfSome (mark_of d.holdings) (IsFreeFor locks.now actor)) }
 {
     match statement {

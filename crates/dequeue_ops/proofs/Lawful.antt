@@ -1,5 +1,5 @@
 -- What holds of the effect of each dequeue.
-use Rattle.std.proofs.Common.{◌≡◌, ℕ, List, Bool, true, false, Option, Some, None, IfSome, refl}
+use Rattle.std.proofs.Common.{◌≡◌, ℕ, List, [], Bool, true, false, Option, Some, None, IfSome, refl}
 use Rattle.std.specs.Prelude.{◌&&◌, not, find, if◌then◌else◌}
 use Rattle.std.specs.Str.{bytes_eq}
 use Rattle.std.proofs.lemmas.Bool.{and_parts, not-true}
@@ -32,16 +32,18 @@ use Rattle.dequeue_ops.specs.Effects.{answering, refusing, move_of, message_repl
 use Rattle.dequeue_ops.proofs.Choosing.{chosen-available}
 use Rattle.dequeue_ops.proofs.Holding.{free_for}
 
--- it is answered and takes no id, it adds nothing, and the slot that it marks is free for the session
+-- it is answered and takes no id, it adds nothing, what it leaves pending comes with no commit, and the slot that it marks is free for
+-- the session
 pub record IsLawful (locks : List SessionMarks) (actor : ℕ) (e : Effect) : Type 0 where
   pub answered : IsAnswered e.verdict
   pub no_id : ids_of e.verdict ≡ 0
   pub removes : IfSome e.pend (λ p. is_addition p ≡ false)
+  pub later : IfSome e.pend (λ p. e.commit ≡ [])
   pub free : IfSome e.mark (IsFreeFor locks actor)
 
 module _ (locks : List SessionMarks) (actor : ℕ) where
   lawful-answering : (reply : Reply) (move : PositionMove) → ids_taken reply ≡ 0 → IsLawful locks actor (answering reply move)
-  lawful-answering reply move none = record { answered = tt; no_id = none; removes = tt; free = tt }
+  lawful-answering reply move none = record { answered = tt; no_id = none; removes = tt; later = tt; free = tt }
 
   free_part : (mode : Mode) (queue : QueueRow) (m : MsgRow) → is_available locks actor mode queue m ≡ true → is_free locks actor mode m.id (own_slot queue) ≡ true
   free_part mode queue m e =
@@ -53,13 +55,13 @@ module _ (locks : List SessionMarks) (actor : ℕ) where
   unheld id slot e = not-true (is_held locks actor id slot) e
 
   lawful-in : (mode : Mode) (visibility : Visibility) (t : Tables) (moment : ℕ) (reply : Reply) (move : PositionMove) (id slot : ℕ) → ids_taken reply ≡ 0 → is_free locks actor mode id slot ≡ true → IsLawful locks actor (giving_in mode visibility t moment reply move id slot)
-  lawful-in modes.Remove visibilities.Immediate t moment reply move id slot none free = record { answered = tt; no_id = none; removes = tt; free = tt }
-  lawful-in modes.RemoveNodata visibilities.Immediate t moment reply move id slot none free = record { answered = tt; no_id = none; removes = tt; free = tt }
+  lawful-in modes.Remove visibilities.Immediate t moment reply move id slot none free = record { answered = tt; no_id = none; removes = tt; later = tt; free = tt }
+  lawful-in modes.RemoveNodata visibilities.Immediate t moment reply move id slot none free = record { answered = tt; no_id = none; removes = tt; later = tt; free = tt }
   lawful-in modes.Browse visibility t moment reply move id slot none free = lawful-answering reply move none
   lawful-in modes.Locked visibilities.Immediate t moment reply move id slot none free = lawful-answering reply move none
-  lawful-in modes.Remove visibilities.OnCommit t moment reply move id slot none free = record { answered = tt; no_id = none; removes = refl; free = free_for locks actor id slot true (unheld id slot free) }
-  lawful-in modes.RemoveNodata visibilities.OnCommit t moment reply move id slot none free = record { answered = tt; no_id = none; removes = refl; free = free_for locks actor id slot true (unheld id slot free) }
-  lawful-in modes.Locked visibilities.OnCommit t moment reply move id slot none free = record { answered = tt; no_id = none; removes = tt; free = free_for locks actor id slot false (unheld id slot free) }
+  lawful-in modes.Remove visibilities.OnCommit t moment reply move id slot none free = record { answered = tt; no_id = none; removes = refl; later = refl; free = free_for locks actor id slot true (unheld id slot free) }
+  lawful-in modes.RemoveNodata visibilities.OnCommit t moment reply move id slot none free = record { answered = tt; no_id = none; removes = refl; later = refl; free = free_for locks actor id slot true (unheld id slot free) }
+  lawful-in modes.Locked visibilities.OnCommit t moment reply move id slot none free = record { answered = tt; no_id = none; removes = tt; later = tt; free = free_for locks actor id slot false (unheld id slot free) }
 
   module _ (t : Tables) (at : DbId) (positions : List Position) (ask : Dequeue) (moment : ℕ) where
     lawful-by : (queue : QueueRow) (table : TableRow) (m : Option MsgRow) → IfSome m (λ m. is_available locks actor ask.mode queue m ≡ true) → IsLawful locks actor (effect_by t at queue table ask moment m)

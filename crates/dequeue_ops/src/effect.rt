@@ -289,6 +289,7 @@ pub fn dequeue(
     ensures no_id { IfOk result (λ e. ids_of e.verdict ≡ 0) }
     ensures within { IfOk result (λ e. (n g r : ℕ) → All (IsWithin n g r) e.commit) }
     ensures removes { IfOk result (λ e. IfSome e.pend (λ p. is_addition p ≡ false)) }
+    ensures later { IfOk result (λ e. IfSome e.pend (λ p. e.commit ≡ [])) }
     ensures free { IfOk result (λ e. IfSome e.mark (IsFreeFor locks.now actor)) }
 {
     let look = Look {

@@ -22,6 +22,14 @@ returns-clause-no_id c =
     (subst P (sym same) (lawful c.args.locks.now c.args.actor c.args.store.now c.args.session.now.at c.args.session.now.positions c.args.ask.now c.args.moment)).no_id)
     c.effect_of.ensures.is
 
+pub returns-clause-later : goal.returns-clause-later
+returns-clause-later c =
+    IfOk-weaker c.effect_of.result _ _
+    (λ e same.
+    let P : Effect → Type 0 = IsLawful c.args.locks.now c.args.actor in
+    (subst P (sym same) (lawful c.args.locks.now c.args.actor c.args.store.now c.args.session.now.at c.args.session.now.positions c.args.ask.now c.args.moment)).later)
+    c.effect_of.ensures.is
+
 pub returns-clause-free : goal.returns-clause-free
 returns-clause-free c =
     IfOk-weaker c.effect_of.result _ _

@@ -37,7 +37,6 @@ returns c =
     let side : database_at s.at w ≡ c.side.result.now = ap (λ db. database_at db w) at ∙ sym c.side.ensures in
     let means = c.in_ok-respond.ensures.means w s side (ap (λ v. v.moment) (sym c.self.view_is)) marks there found.2 in
     let fits = subst (λ ps. IsFit (database_at s.at w) ps deed) (ap (λ t. t.pending) found.2) (subst (λ d. IsFit d c.in-Some.seat.now.pending deed) (sym side) c.in_ok-respond.ensures.fits) in
-    let later = c.in_ok-respond.ensures.later w.sessions s marks there found.2 in
     let short = subst (λ v. All IsShortScript v.scripts) c.self.view_is c.self.invariant.short in
     some_of (λ t. IsNextDeed w i t deed) (slice_get w.sessions i) s there
-    (next_is w i s c.in-Some-statement.statement.now deed c.locks.result.now short there marks next means fits later c.in_ok-respond.ensures.free)
+    (next_is w i s c.in-Some-statement.statement.now deed c.locks.result.now short there marks next means fits c.in_ok-respond.ensures.later c.in_ok-respond.ensures.free)
