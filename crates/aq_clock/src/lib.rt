@@ -5,8 +5,6 @@ mod list;
 mod reading;
 mod step;
 mod system;
-#[cfg(test)]
-mod tests;
 
 pub use list::ListClock;
 pub use reading::Clock;

@@ -27,7 +27,8 @@ impl Clock for ListClock {
 
     ghost plan = { λ c. Some (list_reading c.list.items) };
 
-    ghost as_planned = { λ c readings rule given plan. told_as_planned (list_reading c.list.items) c.taken readings rule given plan };
+    ghost as_planned = { λ c readings rule given plan.
+        told_as_planned (list_reading c.list.items) c.taken readings rule given plan };
 
     fn now(&mut self) -> u64 {
         let reading = reading_at(&self.list, self.taken);

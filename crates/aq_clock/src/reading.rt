@@ -14,12 +14,15 @@ pub trait Clock {
     /// A reading. It cannot fail.
     fn now(&mut self) -> u64
         // The readings are those from before, and this one.
-        ensures reading { ForSome (given self.new) (λ readings. (before : List ℕ) × (given self.old ≡ Some before) × (readings ≡ before ++ result ∷ [])) }
+        ensures reading { ForSome (given self.new)
+            (λ readings. (before : List ℕ) × (given self.old ≡ Some before) × (readings ≡ before ++ result ∷ [])) }
 
         // A clock that tells its readings goes on to, for 2^63 readings at least.
-        ensures tells { ForSome (given self.old) (λ before. length before < 2 ^ 63 → IsSome (given self.new)) }
+        ensures tells { ForSome (given self.old)
+            (λ before. length before < 2 ^ 63 → IsSome (given self.new)) }
         ensures planned { plan self.new ≡ plan self.old };
 
     /// The readings given are the first of the plan.
-    ghost as_planned: { (clock : Self) (readings : List ℕ) (rule : ℕ → ℕ) → given clock ≡ Some readings → plan clock ≡ Some rule → readings ≡ first_readings rule (length readings) };
+    ghost as_planned: { (clock : Self) (readings : List ℕ) (rule : ℕ → ℕ) →
+        given clock ≡ Some readings → plan clock ≡ Some rule → readings ≡ first_readings rule (length readings) };
 }

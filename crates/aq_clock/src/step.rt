@@ -29,7 +29,8 @@ impl Clock for StepClock {
 
     ghost plan = { λ c. Some (step_reading c.start) };
 
-    ghost as_planned = { λ c readings rule given plan. told_as_planned (step_reading c.start) c.taken readings rule given plan };
+    ghost as_planned = { λ c readings rule given plan.
+        told_as_planned (step_reading c.start) c.taken readings rule given plan };
 
     fn now(&mut self) -> u64 {
         let number = self.taken;

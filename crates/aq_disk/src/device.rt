@@ -1,5 +1,5 @@
 // The contract of a disk, the crash included.
-ghost use Rattle.std.specs.Prelude.{◌≡◌, ◌<◌, ◌≤◌, ◌+◌, ◌-◌, ◌^◌, ◌⊎◌, List, ℕ, Option, Some, length, option_map, IfOk, OnOk, OnErr, IsErr};
+ghost use Rattle.std.specs.Prelude.{◌≡◌, ◌<◌, ◌≤◌, ◌+◌, ◌-◌, ◌^◌, ◌⊎◌, List, ℕ, Option, Some, None, length, option_map, IfOk, OnOk, OnErr, IsErr, is_err, Bool};
 ghost use Rattle.std.specs.Option.{ForSome};
 ghost use Rattle.aq_disk.specs.Causes.{HasCause};
 ghost use Rattle.aq_disk.specs.Disk.{after_write, count_read, after_read, next_call, Torn, Only, Follows, Allows, Keeps, SameImages, KeepsEarlier};
@@ -30,6 +30,14 @@ pub trait Disk {
     /// How many of them failed. It never falls, and at 2^64 - 1 it stands still.
     ghost faults: { Self → ℕ };
 
+    /// What else a disk says of a call: of a `len` and a `read`, of a write, and of a sync. The disks before and
+    /// after it are told, and whether it failed.
+    ghost says_of_look: { Self → Self → Bool → Type 0 } = { λ _ _ _. Unit {0} };
+
+    ghost says_of_write: { Self → Self → ℕ → List ℕ → Bool → Type 0 } = { λ _ _ _ _ _. Unit {0} };
+
+    ghost says_of_sync: { Self → Self → Bool → Type 0 } = { λ _ _ _. Unit {0} };
+
     /// The number of bytes.
     fn len(&mut self) -> Result<u64, Failed>
         ensures count { IfOk result (λ n. ForSome (seen self.old) (λ bytes. n ≡ length bytes)) }
@@ -39,7 +47,8 @@ pub trait Disk {
         ensures earlier { KeepsEarlier (calls self.old) (is_image self.old) (is_image self.new) }
         ensures number { calls self.new ≡ next_call (calls self.old) }
         ensures at_end { calls self.old ≡ 2 ^ 64 - 1 → IsErr result }
-        ensures cause { HasCause (faults self.old) (faults self.new) result };
+        ensures cause { HasCause (faults self.old) (faults self.new) result }
+        ensures more { says_of_look self.old self.new (is_err result) };
 
     /// Reads from a place on, and answers how many bytes it read: fewer than asked only at the end.
     /// After `Failed` the buffer may hold anything.
@@ -52,7 +61,8 @@ pub trait Disk {
         ensures earlier { KeepsEarlier (calls self.old) (is_image self.old) (is_image self.new) }
         ensures number { calls self.new ≡ next_call (calls self.old) }
         ensures at_end { calls self.old ≡ 2 ^ 64 - 1 → IsErr result }
-        ensures cause { HasCause (faults self.old) (faults self.new) result };
+        ensures cause { HasCause (faults self.old) (faults self.new) result }
+        ensures more { says_of_look self.old self.new (is_err result) };
 
     /// Writes over what is there, and past the end. After `Failed` the range may hold any bytes, and so may the
     /// part past the old end.
@@ -60,6 +70,7 @@ pub trait Disk {
         requires { ForSome (seen self.old) (λ bytes. at ≤ length bytes) }
         ensures bytes { OnOk result (seen self.new ≡ option_map (after_write at from.now) (seen self.old)) }
         ensures torn { OnErr result (ForSome (seen self.old) (λ was. (bytes : List ℕ) × (seen self.new ≡ Some bytes) × Torn at (length from.now) was bytes)) }
+        ensures silent { seen self.old ≡ None → seen self.new ≡ None }
 
         // Until a sync a crash leaves an image from before with any bytes in the range, and each of these.
         ensures crash { Follows (Torn at (length from.now)) (is_image self.old (calls self.old)) (is_image self.new (calls self.new)) }
@@ -71,7 +82,8 @@ pub trait Disk {
 
         ensures earlier { KeepsEarlier (calls self.old) (is_image self.old) (is_image self.new) }
         ensures number { calls self.new ≡ next_call (calls self.old) }
-        ensures cause { HasCause (faults self.old) (faults self.new) result };
+        ensures cause { HasCause (faults self.old) (faults self.new) result }
+        ensures more { says_of_write self.old self.new at from.now (is_err result) };
 
     /// After it, a crash leaves what a read gives.
     fn sync(&mut self) -> Result<(), Failed>
@@ -81,7 +93,8 @@ pub trait Disk {
         ensures earlier { KeepsEarlier (calls self.old) (is_image self.old) (is_image self.new) }
         ensures number { calls self.new ≡ next_call (calls self.old) }
         ensures at_end { calls self.old ≡ 2 ^ 64 - 1 → IsErr result }
-        ensures cause { HasCause (faults self.old) (faults self.new) result };
+        ensures cause { HasCause (faults self.old) (faults self.new) result }
+        ensures more { says_of_sync self.old self.new (is_err result) };
 
     /// How many calls were made.
     fn calls(&self) -> u64

@@ -11,8 +11,6 @@ mod memory;
 mod plan;
 mod replay;
 mod synced;
-#[cfg(test)]
-mod tests;
 
 pub use device::{Disk, Failed, LENGTH_LIMIT};
 pub use file::FileDisk;

@@ -21,12 +21,12 @@ pub struct MemoryDisk {
 }
 
 impl MemoryDisk {
-    ghost use Rattle.std.specs.Prelude.{ℕ, ◌≡◌, ◌≤◌, ◌<◌, ◌+◌, ◌-◌, ◌^◌, length, Some, IfOk, OnOk, OnErr, IsErr, ◌↔◌};
+    ghost use Rattle.std.specs.Prelude.{ℕ, ◌≡◌, ◌≤◌, ◌<◌, ◌+◌, ◌-◌, ◌^◌, [], length, Some, IfOk, OnOk, OnErr, IsErr, ◌↔◌};
     ghost use Rattle.aq_disk.specs.Causes.{HasCause};
     ghost use Rattle.aq_disk.specs.Disk.{IsSettled, next_call, after_write};
     ghost use Rattle.aq_disk.specs.Kept.{AddsWrite};
     ghost use Rattle.aq_disk.specs.Held.{SameHeld};
-    ghost use Rattle.aq_disk.specs.Memory.{image_of, FailsAt};
+    ghost use Rattle.aq_disk.specs.Memory.{image_of, start_of, kept_of, FailsAt, SamePlan};
     ghost use Rattle.aq_disk.specs.Plan.{IsSetToFail};
     ghost use Rattle.aq_disk.specs.declared.kept.Fill.TheVariants.{New};
 
@@ -39,6 +39,7 @@ impl MemoryDisk {
         fuse: Option<u64>,
     ) -> Result<MemoryDisk, AllocError>
         ensures bytes { IfOk result (λ disk. ⟦<MemoryDisk as Disk>⟧.seen disk ≡ Some bytes.items) }
+        ensures start { IfOk result (λ disk. (start_of disk ≡ bytes.items) × (kept_of disk ≡ [])) }
         ensures settled { IfOk result (λ disk. IsSettled (⟦<MemoryDisk as Disk>⟧.seen disk) (⟦<MemoryDisk as Disk>⟧.is_image disk 0)) }
         ensures plan { IfOk result (λ disk. (call : ℕ) → FailsAt disk call ↔ IsSetToFail failing.items fuse call) }
         ensures calls { IfOk result (λ disk. ⟦<MemoryDisk as Disk>⟧.calls disk ≡ 0) }
@@ -74,6 +75,7 @@ impl MemoryDisk {
         ensures ok { OnOk result (self.old.counts.calls < self.new.counts.calls) }
         ensures at_end { OnErr result (self.old.counts.calls ≡ 2 ^ 64 - 1) }
         ensures held { self.new.held ≡ self.old.held }
+        ensures plan { SamePlan self.old self.new }
         ensures cause { HasCause self.old.counts.faults self.new.counts.faults result }
     {
         self.counts.next()
@@ -84,6 +86,7 @@ impl MemoryDisk {
         ensures set { IsErr result ↔ FailsAt self.old self.old.counts.calls }
         ensures number { self.new.counts.calls ≡ self.old.counts.calls }
         ensures held { self.new.held ≡ self.old.held }
+        ensures plan { SamePlan self.old self.new }
         ensures cause { HasCause self.old.counts.faults self.new.counts.faults result }
     {
         if is_set_to_fail(&self.failing, self.fuse, self.counts.calls) {
@@ -100,6 +103,7 @@ impl MemoryDisk {
         ensures kept { OnOk result (AddsWrite self.old.held.kept.items self.new.held.kept.items self.old.counts.calls at from.now) }
         ensures bytes { OnOk result (self.new.held.bytes.items ≡ after_write at from.now self.old.held.bytes.items) }
         ensures start { self.new.held.start ≡ self.old.held.start }
+        ensures plan { SamePlan self.old self.new }
         ensures err { OnErr result (SameHeld self.old.held self.new.held) }
         ensures cause { HasCause self.old.counts.faults self.new.counts.faults result }
     {
@@ -118,6 +122,7 @@ impl Disk for MemoryDisk {
     ghost use Rattle.std.proofs.Common.{rules};
     ghost use Rattle.aq_disk.specs.Kept.{IsImageAfter, up_to};
     ghost use Rattle.aq_disk.specs.Left.{left_read, told_in_limit};
+    ghost use Rattle.aq_disk.specs.Memory.{Looks, Writes, Syncs};
 
     ghost seen = { λ d. Some d.held.bytes.items };
 
@@ -126,6 +131,12 @@ impl Disk for MemoryDisk {
     ghost calls = { λ d. d.counts.calls };
 
     ghost faults = { λ d. d.counts.faults };
+
+    ghost says_of_look = { λ old new failed. Looks old new failed };
+
+    ghost says_of_write = { λ old new at from failed. Writes old new at from failed };
+
+    ghost says_of_sync = { λ old new failed. Syncs old new failed };
 
     ghost reads_an_image = { λ d bytes same. left_read d.held.start.items d.held.kept.items d.counts.calls d.held.bytes.items bytes d.held.placed d.numbered d.held.as_kept same };
 

@@ -1,6 +1,9 @@
+pub mod SmallList
+pub mod SmallText
 pub mod Kind
 pub mod Name
 pub mod Order
 pub mod Payload
+pub mod Props
 pub mod Record
 pub mod formers

@@ -1,30 +1,36 @@
 // Names of tables, queues, sessions, fields and consumers.
 ghost use Rattle.std.specs.Prelude.{◌≡◌, ◌++◌, IsTrue, IfOk, OnOk, IsErrOf, Some, false, refl};
 ghost use Rattle.std.specs.Cmp.{on_equiv, on_per, on_po, on_total, partial_equiv_from_equiv};
+ghost use Rattle.std.specs.Cmp.Rules.{hashing};
 ghost use Rattle.std.specs.Cmp.Lexicographic.{slice_cmp, nat_list_eq_equiv, nat_list_cmp_total, texts_ties, texts_po};
 ghost use Rattle.std.specs.List.{list_all};
+ghost use Rattle.std.specs.Hash as fed;
+ghost use Rattle.std.proofs.Common.{rules};
 ghost use Rattle.std.specs.Ordering.{nat_cmp};
 ghost use Rattle.std.specs.Str.{bytes_eq};
 ghost use Rattle.payload_records.specs.Name.{is_name, is_name_byte, is_small_letter};
 ghost use Rattle.payload_records.specs.declared.name.NameFault.TheVariants.{Memory};
 
+use crate::small_text::SmallText;
 use crate::{Copied, NAME_LIMIT};
 use std::alloc::{AllocError, Global};
 use std::cmp::Ordering;
+use std::fmt;
+use std::hash::{Hash, Hasher};
 use std::marker::Model;
 
 /// A name, which contracts see as its bytes.
-#[derive(Debug, Drop)]
+#[derive(Drop)]
 pub struct Name {
-    text: String,
+    bytes: SmallText,
 }
 
 impl Model for Name {
-    ghost use Rattle.std.specs.Prelude.{List, ℕ, string_bytes};
+    ghost use Rattle.std.specs.Prelude.{List, ℕ};
 
     ghost Value = { List ℕ };
 
-    ghost view = { λ n. string_bytes n.text };
+    ghost view = { λ n. n.bytes };
 }
 
 /// Why a text was not read as a name.
@@ -85,7 +91,7 @@ impl Name {
             return Err(NameFault::Bad);
         }
         Ok(Name {
-            text: String::from_str(alloc, text)?,
+            bytes: SmallText::of(alloc, text)?,
         })
     }
 
@@ -93,23 +99,23 @@ impl Name {
     pub fn with_suffix(&self, suffix: &str) -> Result<Name, AllocError>
         ensures { IfOk result (λ name. name ≡ self.now ++ suffix.now) }
     {
-        let mut text = self.text.clone()?;
-        text.push_str(suffix)?;
-        Ok(Name { text })
+        Ok(Name {
+            bytes: self.bytes.followed_by(suffix)?,
+        })
     }
 
     /// The bytes of the name as a text. It takes no memory.
     pub fn as_str(&self) -> &str
         ensures { result.now ≡ self.now }
     {
-        self.text.as_str()
+        self.bytes.as_str()
     }
 }
 
 impl Copied for Name {
     fn copied(&self) -> Result<Self, AllocError> {
         Ok(Name {
-            text: self.text.clone()?,
+            bytes: self.bytes.copied()?,
         })
     }
 }
@@ -120,7 +126,7 @@ impl PartialEq for Name {
     ghost laws = { on_per (λ n. n) (partial_equiv_from_equiv nat_list_eq_equiv) };
 
     fn eq(&self, other: &Self) -> bool {
-        self.text == other.text
+        self.as_str() == other.as_str()
     }
 }
 
@@ -148,6 +154,22 @@ impl Ord for Name {
     ghost matches_eq = { texts_ties };
 
     fn cmp(&self, other: &Self) -> Ordering {
-        self.text.cmp(&other.text)
+        self.as_str().cmp(other.as_str())
+    }
+}
+
+impl Hash for Name {
+    ghost hash_input = { λ n. fed.str n };
+
+    ghost respects_eq = { Prim.search (hashing, rules) };
+
+    fn hash<H: Hasher>(&self, state: &mut H) {
+        self.as_str().hash(state);
+    }
+}
+
+impl fmt::Debug for Name {
+    fn fmt<W: fmt::Write>(&self, f: &mut fmt::Formatter<W>) -> fmt::Result {
+        fmt::Debug::fmt(&self.as_str(), f)
     }
 }

@@ -9,7 +9,7 @@ ghost use Rattle.payload_records.specs.Record.{value_fault, member_fault, first_
 ghost use Rattle.payload_records.specs.declared.record.PayloadFault.TheVariants.{Memory};
 
 use crate::{
-    Copied, Field, Kind, List, Loose, Member, Name, Payload, RecordType, TEXT_LIMIT, Text,
+    Copied, Field, Kind, List, Loose, Member, Name, Payload, RecordType, Shared, TEXT_LIMIT, Text,
 };
 use serde_json::{Map, Value};
 use std::alloc::{AllocError, Global};
@@ -29,7 +29,7 @@ pub enum Datum {
 #[derive(Debug, PartialEq, Eq, Drop)]
 pub struct Record {
     /// The data.
-    pub cells: List<Datum>,
+    pub cells: Shared<List<Datum>>,
 }
 
 /// Why a payload is no record of a type.
@@ -126,7 +126,8 @@ fn put(
     key: &str,
     value: Value,
 ) -> Result<(), AllocError>
-    ensures { OnOk result (members_view members.new.entries ≡ put key.now (view value) (members_view members.old.entries)) }
+    ensures { OnOk result
+        (members_view members.new.entries ≡ put key.now (view value) (members_view members.old.entries)) }
 {
     let key = String::from_str(alloc, key)?;
     drop(members.insert(key, value)?);
@@ -171,7 +172,8 @@ impl Record {
         value: &Payload,
     ) -> Result<Record, PayloadFault>
         ensures ok { IfOk result (λ r. record_of kind.now value.now ≡ Ok r) }
-        ensures fault { IfErr result (λ e. e ≢ PayloadFault.Memory → record_of kind.now value.now ≡ Err e) }
+        ensures fault { IfErr result
+            (λ e. e ≢ PayloadFault.Memory → record_of kind.now value.now ≡ Err e) }
     {
         let fields = kind.fields();
         let members = match value {
@@ -180,7 +182,9 @@ impl Record {
         };
         judge_all(fields, members)?;
         let cells = cells_of(alloc, fields, members)?;
-        Ok(Record { cells })
+        Ok(Record {
+            cells: Shared::new(alloc, cells)?,
+        })
     }
 
     /// The record as a JSON object: every field of the type with its cell, null ones and those

@@ -7,6 +7,7 @@ ghost use Rattle.place_keys.specs.PlaceLaws.{place_cmp_total, Neighbours};
 ghost use Rattle.place_keys.specs.declared.place.PlaceFault.TheVariants.{TooDeep, Memory};
 
 use payload_records::Copied;
+use smallvec::SmallVec;
 use std::alloc::{AllocError, Global};
 use std::cmp::Ordering;
 use std::marker::Model;
@@ -18,7 +19,7 @@ pub const BEFORE_LIMIT: usize = 16;
 /// before which it was put. Contracts see the list of numbers.
 #[derive(Drop)]
 pub struct Place {
-    numbers: Vec<i64>,
+    numbers: SmallVec<i64, 4>,
 }
 
 impl Model for Place {
@@ -49,7 +50,7 @@ impl From<AllocError> for PlaceFault {
 impl Copied for Place {
     fn copied(&self) -> Result<Self, AllocError> {
         Ok(Place {
-            numbers: Vec::from_slice(*self.numbers.allocator(), self.numbers.as_slice())?,
+            numbers: SmallVec::from_slice(*self.numbers.allocator(), self.numbers.as_slice())?,
         })
     }
 }
@@ -60,7 +61,7 @@ impl Place {
         requires { sequence < 2 ^ 62 }
         ensures { IfOk result (λ place. place ≡ lane ∷ columns.now ++ pos sequence ∷ []) }
     {
-        let mut numbers = Vec::new(alloc);
+        let mut numbers = SmallVec::new(alloc);
         numbers.push(lane)?;
         numbers.extend_from_slice(columns)?;
         numbers.push(sequence as i64)?;
@@ -71,7 +72,9 @@ impl Place {
     pub fn from_numbers(numbers: Vec<i64>) -> Place
         ensures { result ≡ numbers.items }
     {
-        Place { numbers }
+        Place {
+            numbers: SmallVec::from_vec(numbers),
+        }
     }
 
     /// The numbers: the lane, the sort columns, the message's id, and then the ids of the messages before which it was put.
@@ -87,7 +90,7 @@ impl Place {
 pub fn before(alloc: Global, at: &Place, columns: u32, number: u64) -> Result<Place, PlaceFault>
     requires { number < 2 ^ 62 }
     ensures ok { IfOk result (λ place. place ≡ put_before at.now (pos number)) }
-    ensures deep { IsErrOf result TooDeep ↔ (BEFORE_LIMIT ≤ before_count columns at.now) }
+    ensures deep { IsErrOf result TooDeep ↔ (16 ≤ before_count columns at.now) }
 {
     if before_count(at, columns) >= BEFORE_LIMIT {
         return Err(PlaceFault::TooDeep);
@@ -105,7 +108,7 @@ fn extended(alloc: Global, place: &Place, number: u64) -> Result<Place, AllocErr
     requires { number < 2 ^ 62 }
     ensures { IfOk result (λ longer. longer ≡ put_before place.now (pos number)) }
 {
-    let mut numbers = Vec::from_slice(alloc, place.numbers.as_slice())?;
+    let mut numbers = SmallVec::from_slice(alloc, place.numbers.as_slice())?;
     numbers.push(number as i64)?;
     Ok(Place { numbers })
 }
