@@ -1,5 +1,5 @@
 -- Each legal step adds one entry, which has the readings so far.
-use Rattle.std.proofs.Common.{◌≡◌, ℕ, ◌+◌, ◌-◌, ◌<◌, ◌≤◌, List, [], ◌∷◌, ◌++◌, Bool, true, false, Option, Some, None, refl, sym, ap, ◌∙◌, arith, length, length-append, subst}
+use Rattle.std.proofs.Common.{◌≡◌, ℕ, ◌+◌, ◌-◌, ◌<◌, ◌≤◌, List, [], ◌∷◌, ◌++◌, Some, None, refl, sym, ap, ◌∙◌, arith, length, length-append, subst}
 use Rattle.std.specs.Prelude.{slice_get}
 use Rattle.std.proofs.lemmas.Option.{slice_get-get_or}
 use Rattle.std.proofs.Math.Seq.{get_or-append_seam}
@@ -7,8 +7,8 @@ use Rattle.aq_base.specs.declared.DbId.{DbId}
 use Rattle.aq_base.specs.declared.DbId.TheVariants.{Home, Away}
 use Rattle.queue_rows.specs.Session.{Session}
 use Rattle.queue_rows.specs.World.{World, stepped, entry_of, read_clock, at_home, at_away}
-use Rattle.queue_rows.specs.Turns.{called, ended, ids_taken, taking_ids, all_durable}
-use Rattle.queue_rows.specs.Legal.{IsLegal, opens, reads, steps, MayStep, last_entry, CallsSo, ParksSo, TellsSo, Flushes, Ends}
+use Rattle.queue_rows.specs.Turns.{called, ids_taken, taking_ids}
+use Rattle.queue_rows.specs.Legal.{IsLegal, opens, reads, steps, MayStep, last_entry, CallsSo, ParksSo, TellsSo}
 use Rattle.queue_rows.specs.declared.change.Change.{Change}
 use Rattle.queue_rows.specs.declared.reply.Reply.{Reply}
 use Rattle.queue_rows.specs.declared.history.Entry.{Entry}

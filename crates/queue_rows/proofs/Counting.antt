@@ -1,13 +1,13 @@
 -- Of a legal world: each call that is to be told was made at commits that were made.
-use Rattle.std.proofs.Common.{◌≡◌, ◌≢◌, ℕ, ◌+◌, ◌<◌, ◌≤◌, ◌⊎◌, inl, inr, Bool, true, false, List, [], Option, Some, None, refl, sym, ap, subst, ◌∙◌, arith, length}
+use Rattle.std.proofs.Common.{◌≡◌, ◌≢◌, ℕ, ◌+◌, ◌<◌, ◌≤◌, ◌⊎◌, inl, inr, false, List, [], Some, None, refl, sym, ap, subst, ◌∙◌, arith, length}
 use Rattle.std.specs.Prelude.{slice_get, slice_set}
 use Rattle.std.proofs.lemmas.Option.{slice_get_within}
 use Rattle.aq_base.specs.declared.DbId.{DbId}
 use Rattle.aq_base.specs.declared.DbId.TheVariants.{Home, Away}
 use Rattle.queue_rows.specs.Session.{Session, Untold}
-use Rattle.queue_rows.specs.World.{World, Database, stepped, at_home, at_away, read_clock}
-use Rattle.queue_rows.specs.Turns.{called, called_in, having_called, untold_in, taking_ids, ids_taken, ended, all_durable}
-use Rattle.queue_rows.specs.Legal.{IsLegal, opens, reads, steps, MayStep, IsReady, CallsSo, ParksSo, TellsSo}
+use Rattle.queue_rows.specs.World.{World, stepped, at_home, at_away, read_clock}
+use Rattle.queue_rows.specs.Turns.{called, called_in, having_called, untold_in, taking_ids, ids_taken, all_durable}
+use Rattle.queue_rows.specs.Legal.{IsLegal, opens, reads, steps, MayStep}
 use Rattle.queue_rows.specs.declared.reply.Reply.{Reply}
 use Rattle.queue_rows.specs.declared.change.Change.{Change}
 use Rattle.queue_rows.specs.declared.history.Step.{Step}

@@ -1,9 +1,3 @@
 pub mod Adding
 pub mod Counting
-pub mod Fronts
-pub mod Ordering
-pub mod Rounds
-pub mod Serially
 pub mod Sessions
-pub mod Tellings
-pub mod Turning

@@ -1,17 +1,21 @@
 -- What a dequeue means: which message it gives, and what becomes of it.
-use Rattle.std.specs.Prelude.{ℕ, ◌+◌, ◌==◌, ◌&&◌, ◌||◌, ℤ, pos, int_lt, List, [], ◌∷◌, ◌++◌, Bool, true, false, not, Option, Some, None, is_some, is_none, option_map, fold, filter, position, if◌then◌else◌}
+use Rattle.std.specs.Prelude.{ℕ, ◌+◌, ◌==◌, ◌&&◌, ◌||◌, pos, int_lt, List, [], ◌∷◌, ◌++◌, Bool, true, false, not, Option, Some, None, is_some, is_none, option_map, fold, filter, position, Result, Ok, Err, if◌then◌else◌}
 use Rattle.std.specs.Option.{option_map_or}
-use Rattle.std.specs.Str.{bytes_eq}
+use Rattle.std.specs.Str.{bytes_eq, chars}
 use Rattle.place_keys.specs.Place.{stands_before}
-use Rattle.row_locks.specs.Marks.{taken}
-use Rattle.row_locks.specs.declared.mark.Group.{Group}
-use Rattle.row_locks.specs.declared.mark.Mark.{Mark}
+use Rattle.rule_conditions.specs.Like.{is_like}
+use Rattle.rule_conditions.specs.declared.condition.Cond.{Cond}
+use Rattle.slot_marks.specs.Marks.{taken}
+use Rattle.slot_marks.specs.declared.mark.Mark.{Mark}
 use Rattle.queue_rows.specs.Rows.{find_table, find_queue, slot_of}
 use Rattle.queue_rows.specs.Tables.{lane_of}
-use Rattle.queue_rows.specs.Settling.{is_exception, is_ready}
+use Rattle.queue_rows.specs.Settling.{is_exception, is_open, is_ready}
 use Rattle.queue_rows.specs.Commits.{commit_of}
-use Rattle.queue_rows.specs.Session.{Session, is_same_consumer, is_held, has_removed, without_mark, is_position, position_in, positioned}
-use Rattle.queue_rows.specs.Meaning.{Meaning, answers, parks, unbuilt, refused, first_look, still_waits}
+use Rattle.queue_rows.specs.Groups.{group_of}
+use Rattle.queue_rows.specs.Conditions.{is_met, optional_condition}
+use Rattle.queue_rows.specs.Recipients.{has_consumers}
+use Rattle.queue_rows.specs.Session.{Session, is_same_consumer, is_held, holder, has_removed, without_mark, is_position, position_in, positioned, message_named}
+use Rattle.queue_rows.specs.Meaning.{Meaning, answers, parks, unparked, refused, first_look, still_waits}
 use Rattle.queue_rows.specs.declared.tables.Tables.{Tables}
 use Rattle.queue_rows.specs.declared.rows.TableRow.{TableRow}
 use Rattle.queue_rows.specs.declared.rows.QueueRow.{QueueRow}
@@ -21,6 +25,7 @@ use Rattle.queue_rows.specs.declared.session.Pending.TheVariants.{Remove}
 use Rattle.queue_rows.specs.declared.session.Position.{Position}
 use Rattle.queue_rows.specs.declared.reply.Reply.{Reply}
 use Rattle.queue_rows.specs.declared.reply.Reply.TheVariants as replies
+use Rattle.queue_rows.specs.declared.reply.ConditionFault.{ConditionFault}
 use Rattle.queue_rows.specs.declared.reply.Shown.{Shown}
 use Rattle.queue_rows.specs.declared.statement.Dequeue.{Dequeue}
 use Rattle.queue_rows.specs.declared.statement.MsgId.{MsgId}
@@ -30,6 +35,18 @@ use Rattle.queue_rows.specs.declared.statement.Navigation.{Navigation}
 use Rattle.queue_rows.specs.declared.statement.Navigation.TheVariants as navigations
 use Rattle.queue_rows.specs.declared.statement.Visibility.{Visibility}
 use Rattle.queue_rows.specs.declared.statement.Visibility.TheVariants as visibilities
+
+-- what a dequeue looks at: the tables, all sessions, which of them asks, its queue and the queue's table, what it asks, and
+-- the condition that this names
+pub record Look : Type 0 where
+  pub tables : Tables
+  pub sessions : List Session
+  pub actor : ℕ
+  pub session : Session
+  pub queue : QueueRow
+  pub table : TableRow
+  pub ask : Dequeue
+  pub condition : Option Cond
 
 -- ---- slots
 
@@ -45,19 +62,8 @@ abbrev pub slot_for : QueueRow → Option (List ℕ) → MsgRow → Option ℕ
 slot_for queue None m = if is_exception queue.kind then Some 0 else Some 1
 slot_for queue (Some consumer) m = slot_number (position (is_local_for consumer) m.slots)
 
--- the group by which marks hold a slot, in a grouped queue
-abbrev pub mark_group : TableRow → Option (List ℕ) → MsgRow → Option Group
-mark_group table consumer m = if table.grouped then Some (record { queue = m.queue; number = m.group; consumer = consumer }) else None
-
--- what a dequeue looks at: the tables, all sessions, which of them asks, its queue and the queue's table
-pub record Look : Type 0 where
-  pub tables : Tables
-  pub sessions : List Session
-  pub actor : ℕ
-  pub session : Session
-  pub queue : QueueRow
-  pub table : TableRow
-  pub ask : Dequeue
+abbrev pub slot_in : Look → MsgRow → Option ℕ
+slot_in l m = slot_for l.queue l.ask.consumer m
 
 abbrev pub is_browse : Mode → Bool
 is_browse modes.Remove = false
@@ -66,7 +72,7 @@ is_browse modes.Locked = false
 is_browse modes.RemoveNodata = false
 
 abbrev pub is_free : Look → MsgRow → ℕ → Bool
-is_free l m slot = is_browse l.ask.mode || not (is_held l.sessions l.actor l.session.at m.id slot (mark_group l.table l.ask.consumer m))
+is_free l m slot = is_browse l.ask.mode || not (is_held l.sessions l.actor l.session.at m.id slot (group_of l.table m slot))
 
 abbrev pub is_ready_slot : Option SlotRow → Bool
 is_ready_slot None = false
@@ -78,11 +84,22 @@ is_available_slot l m None = false
 is_available_slot l m (Some slot) = is_ready_slot (slot_of m slot) && not (has_removed l.session m.id slot) && is_free l m slot
 
 abbrev pub is_available : Look → MsgRow → Bool
-is_available l m = bytes_eq m.queue l.queue.name && is_available_slot l m (slot_for l.queue l.ask.consumer m)
+is_available l m = bytes_eq m.queue l.queue.name && is_available_slot l m (slot_in l m)
+
+-- ---- criteria
+
+-- the correlation is like the pattern, where there is one; a null correlation is like none
+abbrev pub meets_corr : Option (List ℕ) → Option (List ℕ) → Bool
+meets_corr None corr = true
+meets_corr (Some pattern) corr = option_map_or (λ text. is_like (chars pattern) (chars text)) corr false
+
+-- the message has a correlation as is asked for, and the condition is true of it
+abbrev pub meets : Look → MsgRow → Bool
+meets l m = meets_corr l.ask.corr m.facts.corr && is_met l.table.fields m.facts l.condition
 
 -- the messages that the dequeue may give
 abbrev pub candidates : Look → List MsgRow
-candidates l = filter (is_available l) l.tables.messages
+candidates l = filter (λ m. is_available l m && meets l m) l.tables.messages
 
 -- ---- which of them
 
@@ -142,7 +159,44 @@ abbrev pub retries_of : MsgRow → ℕ → ℕ
 retries_of m slot = option_map_or (λ s. s.retries) (slot_of m slot) 0
 
 abbrev pub message_reply : Look → MsgRow → ℕ → Reply
-message_reply l m slot = replies.Message (record { db = l.session.at; number = m.id }) m.facts.priority (retries_of m slot) m.facts.corr (shown_in l.ask.mode l.table m)
+message_reply l m slot = replies.Message (record { db = l.session.at; number = m.id }) m.facts.priority (retries_of m slot) m.facts.corr (shown_in l.ask.mode l.table m) m.facts.props
+
+-- taken as a transaction of its own: the slot is done, and the session's own mark on it goes
+abbrev pub taken_at_once : Look → Session → ℕ → MsgRow → ℕ → Meaning
+taken_at_once l s moment m slot = answers (message_reply l m slot) (commit_of l.tables moment (Remove m.id slot ∷ []))
+    (record s { marks = without_mark m.id slot s.marks })
+
+-- the session's mark on the slot, with which it removes it or only locks it
+abbrev pub mark_on : Look → Bool → MsgRow → ℕ → Mark
+mark_on l removed m slot = record { id = m.id; slot = slot; removed = removed; group = group_of l.table m slot }
+
+-- taken when the session commits: until then the slot is marked as removed
+abbrev pub taken_later : Look → Session → MsgRow → ℕ → Meaning
+taken_later l s m slot = answers (message_reply l m slot) []
+    (record s { marks = taken s.marks (mark_on l true m slot); pending = s.pending ++ Remove m.id slot ∷ [] })
+
+-- no other session can take it until this one ends its transaction
+abbrev pub locked : Look → Session → MsgRow → ℕ → Meaning
+locked l s m slot = answers (message_reply l m slot) [] (record s { marks = taken s.marks (mark_on l false m slot) })
+
+-- it is shown, and stays as it is
+abbrev pub shown : Look → Session → MsgRow → ℕ → Meaning
+shown l s m slot = answers (message_reply l m slot) [] s
+
+-- the slot is given to the session, which then stands as s says
+abbrev pub given_in : Mode → Visibility → Look → Session → ℕ → MsgRow → ℕ → Meaning
+given_in modes.Remove visibilities.Immediate l s moment m slot = taken_at_once l s moment m slot
+given_in modes.RemoveNodata visibilities.Immediate l s moment m slot = taken_at_once l s moment m slot
+given_in modes.Browse visibility l s moment m slot = shown l s m slot
+given_in modes.Locked visibilities.Immediate l s moment m slot = shown l s m slot
+given_in modes.Remove visibilities.OnCommit l s moment m slot = taken_later l s m slot
+given_in modes.RemoveNodata visibilities.OnCommit l s moment m slot = taken_later l s m slot
+given_in modes.Locked visibilities.OnCommit l s moment m slot = locked l s m slot
+
+abbrev pub given : Look → Session → ℕ → MsgRow → ℕ → Meaning
+given l s moment m slot = given_in l.ask.mode l.ask.visibility l s moment m slot
+
+-- ---- by navigation
 
 -- the session stands at the message that it was given, and no longer waits
 abbrev pub standing_at : Look → MsgRow → Session
@@ -151,37 +205,10 @@ standing_at l m = record l.session {
   parked = None;
 }
 
--- taken as a transaction of its own: the slot is done, and the session's own mark on it goes
-abbrev pub taken_at_once : Look → ℕ → MsgRow → ℕ → Meaning
-taken_at_once l moment m slot = answers (message_reply l m slot) (commit_of l.tables moment (Remove m.id slot ∷ []))
-    (let s = standing_at l m in record s { marks = without_mark m.id slot s.marks })
-
--- the session's mark on the slot, with which it removes it or only locks it
-abbrev pub mark_on : Look → Bool → MsgRow → ℕ → Mark
-mark_on l removed m slot = record { id = m.id; slot = slot; removed = removed; group = mark_group l.table l.ask.consumer m }
-
--- taken when the session commits: until then the slot is marked as removed
-abbrev pub taken_later : Look → MsgRow → ℕ → Meaning
-taken_later l m slot = answers (message_reply l m slot) []
-    (let s = standing_at l m in record s { marks = taken s.marks (mark_on l true m slot); pending = s.pending ++ Remove m.id slot ∷ [] })
-
--- no other session can take it until this one ends its transaction
-abbrev pub locked : Look → MsgRow → ℕ → Meaning
-locked l m slot = answers (message_reply l m slot) []
-    (let s = standing_at l m in record s { marks = taken s.marks (mark_on l false m slot) })
-
-abbrev pub given_in : Mode → Visibility → Look → ℕ → MsgRow → ℕ → Meaning
-given_in modes.Remove visibilities.Immediate l moment m slot = taken_at_once l moment m slot
-given_in modes.RemoveNodata visibilities.Immediate l moment m slot = taken_at_once l moment m slot
-given_in modes.Browse visibility l moment m slot = answers (message_reply l m slot) [] (standing_at l m)
-given_in modes.Locked visibilities.Immediate l moment m slot = answers (message_reply l m slot) [] (standing_at l m)
-given_in modes.Remove visibilities.OnCommit l moment m slot = taken_later l m slot
-given_in modes.RemoveNodata visibilities.OnCommit l moment m slot = taken_later l m slot
-given_in modes.Locked visibilities.OnCommit l moment m slot = locked l m slot
-
-abbrev pub given : Look → ℕ → MsgRow → Option ℕ → Meaning
-given l moment m None = unbuilt
-given l moment m (Some slot) = given_in l.ask.mode l.ask.visibility l moment m slot
+-- a message that is chosen has its slot
+abbrev pub given_chosen : Look → ℕ → MsgRow → Option ℕ → Meaning
+given_chosen l moment m None = refused l.session replies.NoMessage
+given_chosen l moment m (Some slot) = given l (standing_at l m) moment m slot
 
 -- looking from the beginning, the session no longer stands anywhere in the queue
 abbrev pub forgetting : Navigation → Dequeue → Session → Session
@@ -195,14 +222,47 @@ nothing_given l moment = if still_waits l.session l.ask.wait moment then parks (
     else refused (forgetting l.ask.navigation l.ask l.session) replies.NoMessage
 
 abbrev pub given_by : Look → ℕ → Choice → Meaning
-given_by l moment (found m) = given l moment m (slot_for l.queue l.ask.consumer m)
+given_by l moment (found m) = given_chosen l moment m (slot_in l m)
 given_by l moment end_of_group = refused l.session replies.EndOfGroup
 given_by l moment nothing = nothing_given l moment
 
+-- ---- by msgid
+
+-- it can be taken, now or later
+abbrev pub is_open_slot : Option SlotRow → Bool
+is_open_slot None = false
+is_open_slot (Some s) = is_open s.state
+
+-- the other session that holds the slot; who only browses meets none
+abbrev pub holder_for : Look → MsgRow → ℕ → Option ℕ
+holder_for l m slot = if is_browse l.ask.mode then None
+    else holder l.sessions l.actor l.session.at m.id slot (group_of l.table m slot)
+
+-- the slot is given where no other holds it, and the session stands where it stood
+abbrev pub given_unheld : Look → ℕ → MsgRow → ℕ → Option ℕ → Meaning
+given_unheld l moment m slot (Some other) = refused l.session (replies.Held other)
+given_unheld l moment m slot None = given l (unparked l.session) moment m slot
+
+abbrev pub given_slot : Look → ℕ → MsgRow → Option ℕ → Meaning
+given_slot l moment m None = refused l.session replies.NotARecipient
+given_slot l moment m (Some slot) =
+    if not (is_open_slot (slot_of m slot)) || has_removed l.session m.id slot || not (meets l m) then refused l.session replies.NoSuchMessage
+    else given_unheld l moment m slot (holder_for l m slot)
+
+abbrev pub given_named : Look → ℕ → Option MsgRow → Meaning
+given_named l moment None = refused l.session replies.NoSuchMessage
+given_named l moment (Some m) = if not (bytes_eq m.queue l.queue.name) then refused l.session replies.NoSuchMessage
+    else given_slot l moment m (slot_in l m)
+
 -- ---- refusals
 
-abbrev pub has_consumers : QueueRow → TableRow → Bool
-has_consumers queue table = table.multi && not (is_exception queue.kind)
+-- a consumer is needed, and none is given
+abbrev pub lacks_consumer : QueueRow → TableRow → Option (List ℕ) → Bool
+lacks_consumer queue table consumer = has_consumers queue table && is_none consumer
+
+-- a consumer is given, and the queue has none
+abbrev pub has_needless_consumer : QueueRow → TableRow → Option (List ℕ) → Bool
+has_needless_consumer queue table consumer = not (has_consumers queue table) && is_some consumer
 
 abbrev pub is_remove : Mode → Bool
 is_remove modes.Remove = true
@@ -210,28 +270,34 @@ is_remove modes.Browse = false
 is_remove modes.Locked = false
 is_remove modes.RemoveNodata = false
 
+-- of the exception queue of a table with many consumers messages are only removed
+abbrev pub is_wrong_mode : QueueRow → TableRow → Mode → Bool
+is_wrong_mode queue table mode = is_exception queue.kind && table.multi && not (is_remove mode)
+
 abbrev pub is_by_transaction : Navigation → Bool
 is_by_transaction navigations.Next = false
 is_by_transaction navigations.First = false
 is_by_transaction navigations.NextTransaction = true
 
--- what is not built yet: a dequeue by msgid, by correlation and by condition
-abbrev pub has_criteria : Dequeue → Bool
-has_criteria ask = is_some ask.msgid || is_some ask.corr || is_some ask.condition
+-- the message of that id, or the one that the navigation leads to
+abbrev pub dequeue_by : Look → ℕ → Option MsgId → Meaning
+dequeue_by l moment (Some id) = given_named l moment (message_named l.tables l.session.at id)
+dequeue_by l moment None = given_by l moment (chosen l)
 
-abbrev pub dequeue_by : Look → ℕ → Meaning
-dequeue_by l moment =
-    if has_consumers l.queue l.table && is_none l.ask.consumer then refused l.session replies.ConsumerNeeded
-    else (if not (has_consumers l.queue l.table) && is_some l.ask.consumer then refused l.session replies.ConsumerRefused
-    else (if is_exception l.queue.kind && l.table.multi && not (is_remove l.ask.mode) then refused l.session replies.WrongKind
-    else (if is_by_transaction l.ask.navigation && not l.table.grouped then refused l.session replies.NotGrouped
-    else (if has_criteria l.ask then unbuilt
-    else given_by l moment (chosen l)))))
+abbrev pub dequeue_where : Tables → List Session → ℕ → Session → QueueRow → TableRow → Dequeue → Result (Option Cond) ConditionFault → ℕ → Meaning
+dequeue_where t sessions actor s queue table ask (Err fault) moment = refused s (replies.BadCondition fault)
+dequeue_where t sessions actor s queue table ask (Ok condition) moment =
+    dequeue_by (record { tables = t; sessions = sessions; actor = actor; session = s; queue = queue; table = table; ask = ask; condition = condition }) moment ask.msgid
 
 -- in valid tables the table of a queue is there
 abbrev pub dequeue_typed : Tables → List Session → ℕ → Session → QueueRow → Option TableRow → Dequeue → ℕ → Meaning
 dequeue_typed t sessions actor s queue None ask moment = refused s replies.NoQueue
-dequeue_typed t sessions actor s queue (Some table) ask moment = dequeue_by (record { tables = t; sessions = sessions; actor = actor; session = s; queue = queue; table = table; ask = ask }) moment
+dequeue_typed t sessions actor s queue (Some table) ask moment =
+    if lacks_consumer queue table ask.consumer then refused s replies.ConsumerNeeded
+    else (if has_needless_consumer queue table ask.consumer then refused s replies.ConsumerRefused
+    else (if is_wrong_mode queue table ask.mode then refused s replies.WrongKind
+    else (if is_by_transaction ask.navigation && not table.grouped then refused s replies.NotGrouped
+    else dequeue_where t sessions actor s queue table ask (optional_condition table.fields ask.condition) moment)))
 
 abbrev pub dequeue_from : Tables → List Session → ℕ → Session → Option QueueRow → Dequeue → ℕ → Meaning
 dequeue_from t sessions actor s None ask moment = refused s replies.NoQueue

@@ -1,7 +1,7 @@
 -- Which histories are legal, step by step.
 use Rattle.std.specs.Prelude.{ℕ, ◌+◌, ◌-◌, ◌==◌, ◌&&◌, ◌||◌, ◌≡◌, ◌≤◌, List, [], ◌∷◌, ◌++◌, Bool, true, false, nat_lt, Option, Some, None, slice_get, map, length}
 use Rattle.queue_rows.specs.Session.{Session, Untold}
-use Rattle.queue_rows.specs.Meaning.{Meaning, answers, parks}
+use Rattle.queue_rows.specs.Meaning.{answers, parks}
 use Rattle.queue_rows.specs.Statements.{meaning, next_statement}
 use Rattle.queue_rows.specs.World.{World, opened, read_clock, stepped, with_session, uncounted}
 use Rattle.queue_rows.specs.Turns.{called, ended, is_durable, all_durable}

@@ -1,11 +1,19 @@
 pub mod Administration
-pub mod Built
+pub mod Catalog
 pub mod Commits
+pub mod Conditions
 pub mod Dequeueing
+pub mod Distinct
+pub mod Due
 pub mod Enqueueing
+pub mod Fits
+pub mod Groups
 pub mod Legal
+pub mod Listening
 pub mod Meaning
 pub mod Order
+pub mod Propagating
+pub mod Recipients
 pub mod Rows
 pub mod Serial
 pub mod Session
@@ -14,4 +22,6 @@ pub mod Statements
 pub mod Tables
 pub mod Transactions
 pub mod Turns
+pub mod Valid
+pub mod Within
 pub mod World

@@ -1,5 +1,5 @@
 -- Looking rows up, and putting them in their place.
-use Rattle.std.specs.Prelude.{ℕ, ◌-◌, ◌==◌, ◌&&◌, ◌++◌, List, [], ◌∷◌, Bool, Option, Some, None, find, position, remove, slice_get, slice_set, length, codes, if◌then◌else◌}
+use Rattle.std.specs.Prelude.{ℕ, ◌-◌, ◌==◌, ◌&&◌, ◌++◌, List, [], ◌∷◌, Bool, Option, Some, None, option_and_then, find, position, remove, slice_get, slice_set, length, take, nat_le, codes, if◌then◌else◌}
 use Rattle.std.specs.Str.{bytes_eq}
 use Rattle.queue_rows.specs.declared.tables.Tables.{Tables}
 use Rattle.queue_rows.specs.declared.rows.TableRow.{TableRow}
@@ -14,6 +14,22 @@ find_table t name = find (λ r. bytes_eq r.name name) t.tables
 
 abbrev pub find_queue : Tables → List ℕ → Option QueueRow
 find_queue t name = find (λ r. bytes_eq r.name name) t.queues
+
+-- the table of the queue of that name
+abbrev pub table_of : Tables → List ℕ → Option TableRow
+table_of t queue = option_and_then (λ q. find_table t q.table) (find_queue t queue)
+
+abbrev pub is_sub : List ℕ → List ℕ → SubRow → Bool
+is_sub queue name s = bytes_eq s.queue queue && bytes_eq s.name name
+
+abbrev pub find_sub : Tables → List ℕ → List ℕ → Option SubRow
+find_sub t queue name = find (is_sub queue name) t.subs
+
+abbrev pub is_schedule : List ℕ → List ℕ → ScheduleRow → Bool
+is_schedule queue to s = bytes_eq s.queue queue && bytes_eq s.to to
+
+abbrev pub find_schedule : Tables → List ℕ → List ℕ → Option ScheduleRow
+find_schedule t queue to = find (is_schedule queue to) t.schedules
 
 abbrev pub find_message : Tables → ℕ → Option MsgRow
 find_message t id = find (λ m. m.id == id) t.messages
@@ -76,12 +92,26 @@ is_same_schedule a b = bytes_eq a.queue b.queue && bytes_eq a.to b.to
 
 -- ---- slots
 
--- slots are numbered from 1; slot 0 of a moved message is its last
+-- how many slots it has for recipients: all but slot 0
+abbrev pub recipient_count : MsgRow → ℕ
+recipient_count m = if m.moved then length m.slots - 1 else length m.slots
+
+-- the slots of its recipients
+abbrev pub recipient_slots : MsgRow → List SlotRow
+recipient_slots m = take (recipient_count m) m.slots
+
+-- it has a slot of that number: slot 0 where it was moved, and else one for a recipient
+abbrev pub has_slot : MsgRow → ℕ → Bool
+has_slot m slot = if slot == 0 then m.moved else nat_le slot (recipient_count m)
+
+-- where a slot stands that it has: those of recipients are numbered from 1, and slot 0 is the last
 abbrev pub slot_index : MsgRow → ℕ → ℕ
 slot_index m slot = if slot == 0 then length m.slots - 1 else slot - 1
 
+-- a slot that it does not have is found by nobody
 abbrev pub slot_of : MsgRow → ℕ → Option SlotRow
-slot_of m slot = slice_get m.slots (slot_index m slot)
+slot_of m slot = if has_slot m slot then slice_get m.slots (slot_index m slot) else None
 
+-- and changed by nothing
 abbrev pub with_slot : ℕ → (SlotRow → SlotRow) → MsgRow → MsgRow
-with_slot slot f m = record m { slots = changed_nth f (slot_index m slot) m.slots }
+with_slot slot f m = record m { slots = if has_slot m slot then changed_nth f (slot_index m slot) m.slots else m.slots }

@@ -1,16 +1,20 @@
 -- Sessions, and what they hold.
-use Rattle.std.specs.Prelude.{ℕ, ◌+◌, ◌==◌, ◌&&◌, ◌||◌, List, [], ◌∷◌, Bool, true, false, not, Option, Some, None, find, filter, if◌then◌else◌}
+use Rattle.std.specs.Prelude.{ℕ, ◌+◌, ◌==◌, ◌&&◌, ◌||◌, List, [], ◌∷◌, Bool, true, false, not, Option, Some, None, find, filter, fold, map, if◌then◌else◌}
 use Rattle.std.specs.List.{list_any}
-use Rattle.std.specs.Option.{option_eq}
+use Rattle.std.specs.Option.{option_eq, option_or}
 use Rattle.std.specs.Str.{bytes_eq}
 use Rattle.aq_base.specs.declared.DbId.{DbId}
 use Rattle.aq_base.specs.declared.DbId.TheVariants.{Home, Away}
-use Rattle.row_locks.specs.declared.mark.Mark.{Mark}
-use Rattle.row_locks.specs.declared.mark.Group.{Group}
-use Rattle.queue_rows.specs.Rows.{put_by}
+use Rattle.slot_marks.specs.declared.mark.Mark.{Mark}
+use Rattle.slot_marks.specs.declared.mark.Group.{Group}
+use Rattle.queue_rows.specs.Rows.{put_by, find_message, exception_name}
+use Rattle.queue_rows.specs.declared.tables.Tables.{Tables}
+use Rattle.queue_rows.specs.declared.rows.MsgRow.{MsgRow}
+use Rattle.queue_rows.specs.declared.statement.MsgId.{MsgId}
 use Rattle.queue_rows.specs.declared.session.Pending.{Pending}
 use Rattle.queue_rows.specs.declared.session.Position.{Position}
-use Rattle.queue_rows.specs.declared.rows.MsgRow.{MsgRow}
+use Rattle.queue_rows.specs.declared.change.Change.{Change}
+use Rattle.queue_rows.specs.declared.change.Change.TheVariants.{DropTable, DropQueue}
 
 -- a call whose reply was not told yet, with the numbers of commits made up to it
 pub record Untold : Type 0 where
@@ -42,6 +46,10 @@ is_same_db Away Away = true
 abbrev pub is_same_consumer : Option (List ℕ) → Option (List ℕ) → Bool
 is_same_consumer a b = option_eq bytes_eq a b
 
+-- the committed message of an id; an id of the other database names none of this one
+abbrev pub message_named : Tables → DbId → MsgId → Option MsgRow
+message_named t db id = if is_same_db id.db db then find_message t id.number else None
+
 -- ---- marks
 
 abbrev pub marks_slot : ℕ → ℕ → Mark → Bool
@@ -72,6 +80,17 @@ is_held_from number actor db id slot group (s ∷ more) =
 abbrev pub is_held : List Session → ℕ → DbId → ℕ → ℕ → Option Group → Bool
 is_held sessions actor db id slot group = is_held_from 0 actor db id slot group sessions
 
+-- the first session of that database, but the asking one, with such a mark; number is that of the first one of the list
+abbrev pub marker_from : ℕ → ℕ → DbId → (Mark → Bool) → List Session → Option ℕ
+marker_from number actor db is_it [] = None
+marker_from number actor db is_it (s ∷ more) =
+    if not (number == actor) && is_same_db s.at db && list_any is_it s.marks then Some number else marker_from (number + 1) actor db is_it more
+
+-- who holds the slot: the session that has it marked, or, where no other has, the one that has its group
+abbrev pub holder : List Session → ℕ → DbId → ℕ → ℕ → Option Group → Option ℕ
+holder sessions actor db id slot group =
+    option_or (marker_from 0 actor db (marks_slot id slot) sessions) (marker_from 0 actor db (marks_group group) sessions)
+
 -- the session itself has removed the slot
 abbrev pub has_removed : Session → ℕ → ℕ → Bool
 has_removed s id slot = list_any (λ mark. mark.removed && marks_slot id slot mark) s.marks
@@ -93,3 +112,22 @@ is_same_position a b = is_position b.queue b.consumer a
 -- the session stands at that message
 abbrev pub positioned : Position → List Position → List Position
 positioned p positions = put_by is_same_position p positions
+
+-- ---- queues that go
+
+abbrev pub not_standing_in : DbId → List ℕ → Session → Session
+not_standing_in db queue s = if is_same_db s.at db then record s { positions = filter (λ p. not (bytes_eq p.queue queue)) s.positions } else s
+
+-- the sessions of the database no longer stand in the queue
+abbrev pub without_positions : DbId → List ℕ → List Session → List Session
+without_positions db queue sessions = map (not_standing_in db queue) sessions
+
+-- with a table its default exception queue goes
+abbrev pub after_drop : DbId → List Session → Change → List Session
+after_drop db sessions (DropQueue name) = without_positions db name sessions
+after_drop db sessions (DropTable name) = without_positions db (exception_name name) sessions
+after_drop db sessions _ = sessions
+
+-- where these changes of the database drop queues, its sessions no longer stand in them
+unfoldable pub standing_after : DbId → List Change → List Session → List Session
+standing_after db cs sessions = fold (after_drop db) sessions cs

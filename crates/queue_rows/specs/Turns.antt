@@ -1,10 +1,10 @@
 -- What the turns of the sessions, the timer, the propagator and the closing turn do to a world.
-use Rattle.std.specs.Prelude.{ℕ, zero, suc, ◌++◌, min, ◌+◌, ◌&&◌, ◌==◌, List, [], ◌∷◌, Bool, true, false, not, nat_lt, Option, Some, None, is_some, slice_get, if◌then◌else◌}
+use Rattle.std.specs.Prelude.{ℕ, zero, suc, ◌++◌, min, ◌+◌, ◌&&◌, List, [], ◌∷◌, Bool, false, not, nat_lt, Option, Some, None, is_some, slice_get, if◌then◌else◌}
 use Rattle.std.specs.List.{list_any}
 use Rattle.aq_base.specs.declared.DbId.{DbId}
 use Rattle.aq_base.specs.declared.DbId.TheVariants.{Home, Away}
 use Rattle.queue_rows.specs.Session.{Session, Untold}
-use Rattle.queue_rows.specs.Meaning.{Meaning, answers, parks, unbuilt}
+use Rattle.queue_rows.specs.Meaning.{Meaning, answers, parks}
 use Rattle.queue_rows.specs.Statements.{meaning, next_statement}
 use Rattle.queue_rows.specs.World.{World, Database, greatest_moment, read_clock, stepped, at_home, at_away, with_session}
 use Rattle.queue_rows.specs.declared.change.Change.{Change}
@@ -69,7 +69,6 @@ ended i s w = with_session i (record s { pending = []; marks = []; live = false 
 abbrev pub turned_by : ℕ → Session → Meaning → World → World
 turned_by i s (answers reply cs after) w = called i s reply cs after w
 turned_by i s (parks since) w = parked i s since w
-turned_by i s unbuilt w = w
 
 abbrev pub own_turn : ℕ → Session → Option Statement → World → World
 own_turn i s None w = ended i s w

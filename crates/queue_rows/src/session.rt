@@ -18,6 +18,15 @@ pub enum Pending {
     },
 }
 
+/// For whom a message is: a name, none in a queue with one consumer, and where it goes, where it is not local.
+#[derive(Drop)]
+pub struct Agent {
+    /// The name.
+    pub name: Option<Name>,
+    /// The queue of the other database that it is at.
+    pub address: Option<Name>,
+}
+
 /// Where a session stands in a queue: at the last message that it was given there.
 #[derive(Drop)]
 pub struct Position {

@@ -3,20 +3,20 @@ use Rattle.std.proofs.Common.{◌≡◌, ℕ, suc, ◌<◌, ◌+◌, ◌-◌, �
 use Rattle.std.specs.Option.{option_map}
 use Rattle.std.proofs.lemmas.Bool.{cases_eq, cases_lt, cases_Bool, eqb-true, eq-eqb, both_ways, false_from_ne_true}
 use Rattle.row_locks.specs.Entries.{is_same_slot}
-use Rattle.row_locks.specs.Groups.{class_of, is_same_rank, is_same_class, held_count, counted_in, counted_out, number_in, is_number, tally, SameNames, DiffersAt, IsDense, IsClassIndex, AreCounted}
+use Rattle.row_locks.specs.Groups.{class_of, is_same_rank, is_same_class, held_count, counted_in, counted_out, number_in, is_number, number_count, SameNames, DiffersAt, IsDense, IsClassIndex, AreCounted}
 use Rattle.row_locks.specs.declared.classes.Place.{Place}
 use Rattle.row_locks.specs.declared.holds.GroupHold.{GroupHold}
-use Rattle.row_locks.specs.declared.mark.Group.{Group}
+use Rattle.slot_marks.specs.declared.mark.Group.{Group}
 use Rattle.row_locks.proofs.CellLemmas.{same_rank, rank_is, key_is}
 use Rattle.row_locks.proofs.GroupLemmas.{not_none, same_some, chosen, passed, apart, other_key, cases_key}
 use Rattle.row_locks.proofs.SlotLemmas.{same_key, key_is as pair_is}
-use Rattle.row_locks.proofs.TallyLemmas.{one, tally_same, tally_changed, tally_one}
+use Rattle.row_locks.proofs.NumberCountLemmas.{one, number_count_same, number_count_changed, number_count_one}
 
 -- each mark in the index is of the group that it was
 pub counted_same : (G G' : Place → Option Group) (P : ℕ → ℕ → Option Place) (C : ℕ → ℕ) (M : ℕ → Bool) (H : ℕ → ℕ → Option GroupHold) → AreCounted G P C M H
     → ((k r : ℕ) (p : Place) → P k r ≡ Some p → G' p ≡ G p) → AreCounted G' P C M H
 counted_same G G' P C M H counts same = record {
-  counted = λ n k. counts.counted n k ∙ sym (tally_same (λ r. number_in G (P k r)) (λ r. number_in G' (P k r)) n (C k) (λ r below. number k r (P k r) refl));
+  counted = λ n k. counts.counted n k ∙ sym (number_count_same (λ r. number_in G (P k r)) (λ r. number_in G' (P k r)) n (C k) (λ r below. number k r (P k r) refl));
   some = counts.some;
   alike = λ k r s p q g h pure at_r at_s its other. counts.alike k r s p q g h pure at_r at_s (sym (same k r p at_r) ∙ its) (sym (same k s q at_s) ∙ other);
   held = λ k r p g pure at its. counts.held k r p g pure at (sym (same k r p at) ∙ its);
@@ -85,13 +85,13 @@ module _ (G : Place → Option Group) (R : Place → Option ℕ) (P P' : ℕ →
     below : (r : ℕ) → r < C key → is_same_rank key (C key) key r ≡ false
     below r less = apart key key (C key) r (λ e. absurd (let at = e.1 in omega arith))
 
-    put_own : (n : ℕ) → held_count (H' n key) ≡ tally (λ r. number_in G' (P' key r)) n (C' key)
+    put_own : (n : ℕ) → held_count (H' n key) ≡ number_count (λ r. number_in G' (P' key r)) n (C' key)
     put_own n =
         let N : ℕ → Option ℕ = λ r. number_in G' (P' key r) in
         let total : C' key ≡ suc (C key) = let t = chosen _ _ _ (totals key) (key_is key key refl) in omega (arith, t) in
-        let before : tally N n (C key) ≡ tally (λ r. number_in G (P key r)) n (C key) = tally_same (λ r. number_in G (P key r)) N n (C key) (λ r less. numbers key r (below r less)) in
+        let before : number_count N n (C key) ≡ number_count (λ r. number_in G (P key r)) n (C key) = number_count_same (λ r. number_in G (P key r)) N n (C key) (λ r less. numbers key r (below r less)) in
         let was = counts.counted n key in
-        let added : tally N n (C' key) ≡ tally N n (C key) + one n (Some g.number) = ap (tally N n) total ∙ ap (λ o. tally N n (C key) + one n o) last in
+        let added : number_count N n (C' key) ≡ number_count N n (C key) + one n (Some g.number) = ap (number_count N n) total ∙ ap (λ o. number_count N n (C key) + one n o) last in
         elim (cases_eq n g.number) [
           | inl here ↦
               let now : H' n key ≡ Some (counted_in place.session (H g.number key)) = chosen _ _ _ (holds n key) (pair_is (g.number, key) (n, key) (λ i. (sym here i, key))) in
@@ -106,11 +106,11 @@ module _ (G : Place → Option Group) (R : Place → Option ℕ) (P P' : ℕ →
               omega (arith, same, it, added, before, was)
         ]
 
-    put_other : (n k : ℕ) → (key ≡ k → ⊥) → held_count (H' n k) ≡ tally (λ r. number_in G' (P' k r)) n (C' k)
+    put_other : (n k : ℕ) → (key ≡ k → ⊥) → held_count (H' n k) ≡ number_count (λ r. number_in G' (P' k r)) n (C' k)
     put_other n k off =
         let total : C' k ≡ C k = passed _ _ _ (totals k) (other_key key k off) in
         let now : H' n k ≡ H n k = passed _ _ _ (holds n k) (false_from_ne_true (is_same_slot (g.number, key) (n, k)) (λ e. off (ap (λ x. x.1) (same_key (g.number, key) (n, k) e)))) in
-        ap held_count now ∙ counts.counted n k ∙ sym (ap (tally (λ r. number_in G' (P' k r)) n) total ∙ tally_same (λ r. number_in G (P k r)) (λ r. number_in G' (P' k r)) n (C k) (λ r less. numbers k r (apart key k (C key) r (λ e. off e.0))))
+        ap held_count now ∙ counts.counted n k ∙ sym (ap (number_count (λ r. number_in G' (P' k r)) n) total ∙ number_count_same (λ r. number_in G (P k r)) (λ r. number_in G' (P' k r)) n (C k) (λ r less. numbers k r (apart key k (C key) r (λ e. off e.0))))
 
     pure_before : (k : ℕ) → M' k ≡ false → M k ≡ false
     pure_before k pure = elim (cases_key key k) [
@@ -161,7 +161,7 @@ module _ (G : Place → Option Group) (R : Place → Option ℕ) (P P' : ℕ →
     pub put_counted : AreCounted G' P' C' M' H'
     put_counted = record {
       counted = λ n k. elim (cases_key key k) [
-        | inl same ↦ let F : ℕ → Type 0 = λ x. held_count (H' n x) ≡ tally (λ r. number_in G' (P' x r)) n (C' x) in subst F same (put_own n)
+        | inl same ↦ let F : ℕ → Type 0 = λ x. held_count (H' n x) ≡ number_count (λ r. number_in G' (P' x r)) n (C' x) in subst F same (put_own n)
         | inr off ↦ put_other n k off
       ];
       some = λ n k it is. elim (cases_Bool (is_same_slot (g.number, key) (n, k))) [
@@ -227,30 +227,30 @@ module _ (G : Place → Option Group) (R : Place → Option ℕ) (P P' : ℕ →
     rest : (k r : ℕ) → ((names ≡ k) × (C names - 1 ≡ r) → ⊥) → ((names ≡ k) × (rank ≡ r) → ⊥) → P' k r ≡ P k r
     rest k r off_last off = passed _ _ _ (passed _ _ _ (places k r) (apart names k (C names - 1) r off_last)) (apart names k rank r off)
 
-    fewer : (n : ℕ) → tally (λ r. number_in G (P' names r)) n (C' names) + one n (Some g.number) ≡ tally (λ r. number_in G (P names r)) n (C names)
+    fewer : (n : ℕ) → number_count (λ r. number_in G (P' names r)) n (C' names) + one n (Some g.number) ≡ number_count (λ r. number_in G (P names r)) n (C names)
     fewer n =
         let f : ℕ → Option ℕ = λ r. number_in G (P names r) in
         let f' : ℕ → Option ℕ = λ r. number_in G (P' names r) in
         let last : ℕ = C names - 1 in
         let total : C' names ≡ last = chosen _ _ _ (totals names) (key_is names names refl) in
-        let all : tally f n (C names) ≡ tally f n last + one n (f last) = ap (tally f n) (let e : C names ≡ suc last = omega (arith, inside) in e) in
+        let all : number_count f n (C names) ≡ number_count f n last + one n (f last) = ap (number_count f n) (let e : C names ≡ suc last = omega (arith, inside) in e) in
         let own : f rank ≡ Some g.number = ap (number_in G) at ∙ ap (option_map (λ it. it.number)) its in
-        let now : tally f' n (C' names) ≡ tally f' n last = ap (tally f' n) total in
+        let now : number_count f' n (C' names) ≡ number_count f' n last = ap (number_count f' n) total in
         let gone : one n (f rank) ≡ one n (Some g.number) = ap (one n) own in
         elim (cases_eq rank last) [
           | inl is_last ↦
-              let same : tally f' n last ≡ tally f n last = tally_same f f' n last (λ r less. ap (number_in G) (rest names r (λ e. absurd (let x = e.1 in omega arith)) (λ e. absurd (let x = e.1 in omega arith)))) in
+              let same : number_count f' n last ≡ number_count f n last = number_count_same f f' n last (λ r less. ap (number_in G) (rest names r (λ e. absurd (let x = e.1 in omega arith)) (λ e. absurd (let x = e.1 in omega arith)))) in
               let here : one n (f last) ≡ one n (f rank) = ap (λ r. one n (f r)) (sym is_last) in
               omega (arith, all, now, gone, same, here)
           | inr not_last ↦
               let inner = passed _ _ _ (places names rank) (apart names names last rank (λ e. not_last (sym e.1))) in
               let over : f' rank ≡ f last = ap (number_in G) (chosen _ _ _ inner (rank_is names names rank rank refl refl)) in
-              let changed = tally_changed f f' n last rank (omega (arith, inside)) (λ r less ne. ap (number_in G) (rest names r (λ e. absurd (let x = e.1 in omega arith)) (λ e. ne (sym e.1)))) in
+              let changed = number_count_changed f f' n last rank (omega (arith, inside)) (λ r less ne. ap (number_in G) (rest names r (λ e. absurd (let x = e.1 in omega arith)) (λ e. ne (sym e.1)))) in
               let moved : one n (f' rank) ≡ one n (f last) = ap (one n) over in
               omega (arith, all, now, gone, changed, moved)
         ]
 
-    take_own : (n : ℕ) → held_count (H' n names) ≡ tally (λ r. number_in G (P' names r)) n (C' names)
+    take_own : (n : ℕ) → held_count (H' n names) ≡ number_count (λ r. number_in G (P' names r)) n (C' names)
     take_own n =
         let was = counts.counted n names in
         let less = fewer n in
@@ -268,11 +268,11 @@ module _ (G : Place → Option Group) (R : Place → Option ℕ) (P P' : ℕ →
               omega (arith, was, less, same, it)
         ]
 
-    take_other : (n k : ℕ) → (names ≡ k → ⊥) → held_count (H' n k) ≡ tally (λ r. number_in G (P' k r)) n (C' k)
+    take_other : (n k : ℕ) → (names ≡ k → ⊥) → held_count (H' n k) ≡ number_count (λ r. number_in G (P' k r)) n (C' k)
     take_other n k off =
         let total : C' k ≡ C k = passed _ _ _ (totals k) (other_key names k off) in
         let now : H' n k ≡ H n k = passed _ _ _ (holds n k) (false_from_ne_true (is_same_slot (g.number, names) (n, k)) (λ e. off (ap (λ x. x.1) (same_key (g.number, names) (n, k) e)))) in
-        ap held_count now ∙ counts.counted n k ∙ sym (ap (tally (λ r. number_in G (P' k r)) n) total ∙ tally_same (λ r. number_in G (P k r)) (λ r. number_in G (P' k r)) n (C k) (λ r less. ap (number_in G) (rest k r (λ e. off e.0) (λ e. off e.0))))
+        ap held_count now ∙ counts.counted n k ∙ sym (ap (number_count (λ r. number_in G (P' k r)) n) total ∙ number_count_same (λ r. number_in G (P k r)) (λ r. number_in G (P' k r)) n (C k) (λ r less. ap (number_in G) (rest k r (λ e. off e.0) (λ e. off e.0))))
 
     -- a mark that is left was there, at some rank
     where_left : (k r : ℕ) (q : Place) → P' k r ≡ Some q → (s : ℕ) × (P k s ≡ Some q)
@@ -311,7 +311,7 @@ module _ (G : Place → Option Group) (R : Place → Option ℕ) (P P' : ℕ →
                 let e = same_key (g.number, names) (h.number, k) here in
                 let now : H' h.number k ≡ counted_out (H g.number names) = chosen _ _ _ (holds h.number k) here in
                 let number : is_number h.number (number_in G (P' k r)) ≡ true = ap (λ o. is_number h.number (number_in G o)) at ∙ ap (λ o. is_number h.number (option_map (λ it. it.number) o)) its ∙ eq-eqb h.number h.number refl in
-                let positive = tally_one (λ x. number_in G (P' k x)) h.number (C' k) r (ranked k r q at) number in
+                let positive = number_count_one (λ x. number_in G (P' k x)) h.number (C' k) r (ranked k r q at) number in
                 let count = all_counted h.number k in
                 let left = ap held_count now in
                 let some : 0 < held_count (counted_out (H g.number names)) = omega (arith, positive, count, left) in
@@ -320,8 +320,8 @@ module _ (G : Place → Option Group) (R : Place → Option ℕ) (P P' : ℕ →
           ];
     }
       where
-        all_counted : (n k : ℕ) → held_count (H' n k) ≡ tally (λ r. number_in G (P' k r)) n (C' k)
+        all_counted : (n k : ℕ) → held_count (H' n k) ≡ number_count (λ r. number_in G (P' k r)) n (C' k)
         all_counted n k = elim (cases_key names k) [
-          | inl same ↦ let F : ℕ → Type 0 = λ x. held_count (H' n x) ≡ tally (λ r. number_in G (P' x r)) n (C' x) in subst F same (take_own n)
+          | inl same ↦ let F : ℕ → Type 0 = λ x. held_count (H' n x) ≡ number_count (λ r. number_in G (P' x r)) n (C' x) in subst F same (take_own n)
           | inr off ↦ take_other n k off
         ]

@@ -6,7 +6,7 @@ use Rattle.row_locks.specs.Groups.{class_of, key_of, group_at, class_at, rank_at
 use Rattle.row_locks.specs.declared.classes.Place.{Place}
 use Rattle.row_locks.specs.declared.groups.GroupIndex.{GroupIndex}
 use Rattle.row_locks.specs.declared.groups.GroupKey.{GroupKey}
-use Rattle.row_locks.specs.declared.mark.Group.{Group}
+use Rattle.slot_marks.specs.declared.mark.Group.{Group}
 use Rattle.row_locks.proofs.GroupLemmas.{cases_place, index_put}
 use Rattle.row_locks.proofs.GroupedLemmas.{index_each}
 use Rattle.row_locks.proofs.CountLemmas.{put_counted}

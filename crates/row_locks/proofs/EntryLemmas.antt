@@ -4,7 +4,7 @@ use Rattle.std.specs.List.{list_any, filter}
 use Rattle.std.specs.Option.{option_map_or}
 use Rattle.std.proofs.lemmas.Bool.{cases_eq, cases_Bool, and_parts, and_from, both_ways}
 use Rattle.row_locks.specs.Entries.{present, entry_at}
-use Rattle.row_locks.specs.declared.mark.Mark.{Mark}
+use Rattle.slot_marks.specs.declared.mark.Mark.{Mark}
 
 pub present-push : (es : List (Option Mark)) (m : Mark) → present (es ++ Some m ∷ []) ≡ present es ++ m ∷ []
 present-push [] m = refl

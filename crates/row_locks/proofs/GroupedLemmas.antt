@@ -3,13 +3,13 @@ use Rattle.std.proofs.Common.{◌≡◌, ◌≢◌, ℕ, ◌<◌, ◌≤◌, Lis
 use Rattle.std.specs.Option.{option_map, option_map_or}
 use Rattle.std.proofs.lemmas.Bool.{cases_eq, cases_lt, cases_Bool}
 use Rattle.std.proofs.lemmas.List.{get_or_past, get_or-set_same, get_or-set_other}
-use Rattle.row_locks.specs.Marks.{kept_beside, is_on, is_in_group, has_group, marks_of}
+use Rattle.slot_marks.specs.Marks.{kept_beside, is_on, is_in_group, has_group, marks_of}
 use Rattle.row_locks.specs.Entries.{SessionEntries, no_entries, shown, unranked, entry_at, mark_at, with_entry, with_room}
 use Rattle.row_locks.specs.Groups.{class_of, group_in, group_at, class_at, rank_at, is_in_group_at, cell_of, place_of, count_of, mixed_of, hold_in, group_room, DiffersAt, AreRanked, AreGrouped, IsGroupIndexOf}
 use Rattle.row_locks.specs.declared.groups.GroupIndex.{GroupIndex}
 use Rattle.row_locks.specs.declared.classes.Place.{Place}
-use Rattle.row_locks.specs.declared.mark.Group.{Group}
-use Rattle.row_locks.specs.declared.mark.Mark.{Mark}
+use Rattle.slot_marks.specs.declared.mark.Group.{Group}
+use Rattle.slot_marks.specs.declared.mark.Mark.{Mark}
 use Rattle.row_locks.proofs.GroupLemmas.{cases_place, not_none, index_same}
 use Rattle.row_locks.proofs.CountLemmas.{counted_same, counted_told}
 use Rattle.row_locks.proofs.IndexLemmas.{entry_passes, none_passes}

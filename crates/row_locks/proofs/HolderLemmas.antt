@@ -4,18 +4,18 @@ use Rattle.std.specs.Option.{option_eq, option_map, option_map_or}
 use Rattle.std.specs.Str.{bytes_eq}
 use Rattle.std.proofs.lemmas.Bool.{cases_eq, cases_lt, and_parts, and_from, eqb-true, eq-eqb, both_ways, false_from_ne_true}
 use Rattle.std.proofs.lemmas.Slice.Eq.{bytes_eq-Decides}
-use Rattle.row_locks.specs.Marks.{is_in_group, is_same_group, has_any_group, marks_of, NoOtherHasGroup}
+use Rattle.slot_marks.specs.Marks.{is_in_group, is_same_group, has_any_group, marks_of, NoOtherHasGroup}
 use Rattle.row_locks.specs.Entries.{SessionEntries, mark_at, shown}
 use Rattle.row_locks.specs.Groups.{class_of, group_in, group_at, rank_at, is_in_group_at, has_names, has_names_at, place_of, count_of, mixed_of, hold_in, held_count, number_in, is_number, HasAlone, AreRanked, IsGroupIndexOf}
 use Rattle.row_locks.specs.declared.classes.Place.{Place}
 use Rattle.row_locks.specs.declared.groups.GroupIndex.{GroupIndex}
 use Rattle.row_locks.specs.declared.holds.GroupHold.{GroupHold}
-use Rattle.row_locks.specs.declared.mark.Group.{Group}
-use Rattle.row_locks.specs.declared.mark.Mark.{Mark}
+use Rattle.slot_marks.specs.declared.mark.Group.{Group}
+use Rattle.slot_marks.specs.declared.mark.Mark.{Mark}
 use Rattle.row_locks.proofs.GroupLemmas.{not_none, same_some}
 use Rattle.row_locks.proofs.GroupedLemmas.{somewhere}
 use Rattle.row_locks.proofs.SessionLemmas.{in_its_group, same_consumer}
-use Rattle.row_locks.proofs.TallyLemmas.{tally_some}
+use Rattle.row_locks.proofs.NumberCountLemmas.{number_count_some}
 
 -- a mark is in its own group
 consumer_self : (c : Option (List ℕ)) → option_eq bytes_eq c c ≡ true
@@ -116,7 +116,7 @@ module _ (tables : List SessionEntries) (I : GroupIndex) (group : Group) (index 
       pub some_by_number : (at : ℕ) × IsTrue (is_in_group_at tables group (record { session = session; at = at }))
       some_by_number =
           let counted = index.counts.counted group.number (class_of group) in
-          let one = tally_some (λ r. number_in (group_at tables) (place_of I.classes (class_of group) r)) group.number (count_of I.classes (class_of group)) (omega (arith, some_count, counted)) in
+          let one = number_count_some (λ r. number_in (group_at tables) (place_of I.classes (class_of group) r)) group.number (count_of I.classes (class_of group)) (omega (arith, some_count, counted)) in
           by one.0 (place_of I.classes (class_of group) one.0) refl one.2
         where
           group_by : (r : ℕ) (p : Place) → place_of I.classes (class_of group) r ≡ Some p → (o : Option Group) → group_at tables p ≡ o → is_number group.number (option_map (λ it. it.number) (group_at tables p)) ≡ true → group_at tables p ≡ Some group

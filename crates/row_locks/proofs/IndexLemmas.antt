@@ -4,10 +4,10 @@ use Rattle.std.specs.List.{list_any}
 use Rattle.std.specs.Option.{option_map_or}
 use Rattle.std.proofs.lemmas.Bool.{cases_lt, cases_Bool, and_parts, and_from, eqb-true, eq-eqb, both_ways}
 use Rattle.std.proofs.lemmas.List.{get_or_past}
-use Rattle.row_locks.specs.Marks.{is_on, kept_beside}
+use Rattle.slot_marks.specs.Marks.{is_on, kept_beside}
 use Rattle.row_locks.specs.Entries.{present, entry_at}
 use Rattle.row_locks.proofs.EntryLemmas.{present-push, any_at, place_of}
-use Rattle.row_locks.specs.declared.mark.Mark.{Mark}
+use Rattle.slot_marks.specs.declared.mark.Mark.{Mark}
 
 pub on_it : (m : Mark) (id slot : ℕ) → m.id ≡ id → m.slot ≡ slot → is_on id slot m ≡ true
 on_it m id slot e f = and_from (m.id == id) (m.slot == slot) (eq-eqb m.id id e) (eq-eqb m.slot slot f)

@@ -6,7 +6,7 @@ use Rattle.row_locks.specs.Groups.{class_of, key_of, group_at, class_at, is_same
 use Rattle.row_locks.specs.declared.classes.Place.{Place}
 use Rattle.row_locks.specs.declared.groups.GroupIndex.{GroupIndex}
 use Rattle.row_locks.specs.declared.groups.GroupKey.{GroupKey}
-use Rattle.row_locks.specs.declared.mark.Group.{Group}
+use Rattle.slot_marks.specs.declared.mark.Group.{Group}
 use Rattle.row_locks.proofs.CountLemmas.{counted_same, take_counted}
 use Rattle.row_locks.proofs.GroupLemmas.{cases_place, not_none, same_some, rank_below, index_same, index_taken, index_beside, moved_last}
 use Rattle.row_locks.proofs.PlaceLemmas.{rank_set, unranked_set, unranked_group, unranked_class, unranked_length, unranked_entries, class_there}

@@ -12,5 +12,5 @@ pub mod PlaceLemmas
 pub mod SessionLemmas
 pub mod SlotLemmas
 pub mod TableLemmas
-pub mod TallyLemmas
+pub mod NumberCountLemmas
 pub mod SoundLemmas

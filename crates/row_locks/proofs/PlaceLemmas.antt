@@ -9,7 +9,7 @@ use Rattle.std.proofs.Math.ListN.{get_or-map}
 use Rattle.row_locks.specs.Entries.{SessionEntries, no_entries, shown, unranked, entry_at, mark_at, all_spare, with_mark, with_rank}
 use Rattle.row_locks.specs.Groups.{class_of, group_in, group_at, class_at, rank_at, DiffersAt}
 use Rattle.row_locks.specs.declared.classes.Place.{Place}
-use Rattle.row_locks.specs.declared.mark.Mark.{Mark}
+use Rattle.slot_marks.specs.declared.mark.Mark.{Mark}
 use Rattle.row_locks.proofs.GroupLemmas.{not_none}
 use Rattle.row_locks.proofs.IndexLemmas.{within}
 use Rattle.row_locks.proofs.TableLemmas.{Changes, beside_last, session_there}

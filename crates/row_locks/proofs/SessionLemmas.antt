@@ -7,9 +7,9 @@ use Rattle.std.proofs.lemmas.Bool.{cases_eq, cases_lt, cases_Bool, or_cases, and
 use Rattle.std.proofs.lemmas.List.{get_or-set_same, get_or-set_other, get_or_past}
 use Rattle.std.proofs.lemmas.List.Folds.{list_any-append}
 use Rattle.std.proofs.lemmas.Slice.Eq.{bytes_eq-Decides}
-use Rattle.row_locks.specs.Marks.{SessionMarks, no_marks, marks_of, spare_of, is_on, is_same_group, is_in_group, has_slot, has_group, has_any_group, HasSlot, HasGroup, kept_beside, released, SameMarks, ChangesOnly, AreHeldOnce, IsFreeFor, NoOtherHasSlot, NoOtherHasGroup, IsFreeSlot, IsFreeGroup}
-use Rattle.row_locks.specs.declared.mark.Group.{Group}
-use Rattle.row_locks.specs.declared.mark.Mark.{Mark}
+use Rattle.slot_marks.specs.Marks.{SessionMarks, no_marks, marks_of, spare_of, is_on, is_same_group, is_in_group, has_slot, has_group, has_any_group, HasSlot, HasGroup, kept_beside, released, SameMarks, ChangesOnly, AreHeldOnce, IsFreeFor, NoOtherHasSlot, NoOtherHasGroup, IsFreeSlot, IsFreeGroup}
+use Rattle.slot_marks.specs.declared.mark.Group.{Group}
+use Rattle.slot_marks.specs.declared.mark.Mark.{Mark}
 
 pub one_changed : (locks : List SessionMarks) (s : ℕ) (m : SessionMarks) → ChangesOnly locks (slice_set locks s m) s
 one_changed locks s m = record {

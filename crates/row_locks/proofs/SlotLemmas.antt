@@ -3,9 +3,9 @@ use Rattle.std.proofs.Common.{◌≡◌, ℕ, ◌+◌, ◌<◌, List, [], ◌∷
 use Rattle.std.proofs.lemmas.Bool.{and_parts, and_from, eqb-true, eq-eqb}
 use Rattle.std.proofs.lemmas.List.Folds.{list_any-append}
 use Rattle.std.proofs.lemmas.List.{take_more}
-use Rattle.row_locks.specs.Marks.{is_on, has_slot}
+use Rattle.slot_marks.specs.Marks.{is_on, has_slot}
 use Rattle.row_locks.specs.Entries.{is_same_slot}
-use Rattle.row_locks.specs.declared.mark.Mark.{Mark}
+use Rattle.slot_marks.specs.declared.mark.Mark.{Mark}
 use Rattle.row_locks.specs.declared.slots.Hold.{Hold}
 
 pub same_key : (a b : ℕ × ℕ) → is_same_slot a b ≡ true → a ≡ b

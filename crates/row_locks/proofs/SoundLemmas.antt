@@ -4,11 +4,11 @@ use Rattle.std.specs.Option.{option_map}
 use Rattle.std.proofs.lemmas.Bool.{cases_eq, cases_lt, cases_Bool, both_ways}
 use Rattle.std.proofs.lemmas.List.{length-map, get_or_past, get_or-set_same, get_or-set_other, map-set}
 use Rattle.std.proofs.lemmas.List.Sums.{sum_by-set}
-use Rattle.row_locks.specs.Marks.{SessionMarks, no_marks, marks_of, spare_of, is_on, has_slot, has_any_group, kept_beside, released, IsFreeSlot, IsFreeFor, SameMarks, ChangesOnly}
+use Rattle.slot_marks.specs.Marks.{SessionMarks, no_marks, marks_of, spare_of, is_on, has_slot, has_any_group, kept_beside, released, IsFreeSlot, IsFreeFor, SameMarks, ChangesOnly}
 use Rattle.row_locks.specs.Entries.{SessionEntries, no_entries, shown, unranked, present, entry_at, all_spare, with_mark, with_entry, with_room}
 use Rattle.row_locks.specs.Slots.{IsSlotIndex, IsSound}
-use Rattle.row_locks.specs.declared.mark.Group.{Group}
-use Rattle.row_locks.specs.declared.mark.Mark.{Mark}
+use Rattle.slot_marks.specs.declared.mark.Group.{Group}
+use Rattle.slot_marks.specs.declared.mark.Mark.{Mark}
 use Rattle.row_locks.specs.declared.slots.Hold.{Hold}
 use Rattle.row_locks.proofs.EntryLemmas.{present-push, taken_out, changed_in_place}
 use Rattle.row_locks.proofs.IndexLemmas.{kept_off}

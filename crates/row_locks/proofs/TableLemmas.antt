@@ -5,10 +5,10 @@ use Rattle.std.proofs.lemmas.Bool.{cases_eq, cases_lt, cases_Bool, and_parts, eq
 use Rattle.std.proofs.lemmas.List.{get_or-set_same, get_or-set_other, get_or_past, get_or_append_left}
 use Rattle.std.proofs.Math.Seq.{get_or-append_seam}
 use Rattle.std.proofs.Math.ListN.{get_or-map}
-use Rattle.row_locks.specs.Marks.{no_marks, marks_of, spare_of, is_on, has_slot, has_removed, kept_beside, HasSlot, IsFreeSlot}
+use Rattle.slot_marks.specs.Marks.{no_marks, marks_of, spare_of, is_on, has_slot, has_removed, kept_beside, HasSlot, IsFreeSlot}
 use Rattle.row_locks.specs.Entries.{SessionEntries, no_entries, shown, present, entry_at, mark_at, is_same_slot, with_mark, with_entry}
 use Rattle.row_locks.specs.Slots.{IsSlotIndex}
-use Rattle.row_locks.specs.declared.mark.Mark.{Mark}
+use Rattle.slot_marks.specs.declared.mark.Mark.{Mark}
 use Rattle.row_locks.specs.declared.slots.Hold.{Hold}
 use Rattle.row_locks.proofs.EntryLemmas.{any_at, place_of, IsOnly, only_one}
 use Rattle.row_locks.proofs.IndexLemmas.{within, kept_id, kept_slot, on_it, its_slot}

@@ -1,4 +1,4 @@
+pub mod Changes
 pub mod Entries
 pub mod Groups
-pub mod Marks
 pub mod Slots

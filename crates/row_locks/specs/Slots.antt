@@ -1,10 +1,10 @@
 -- What the index of slots tells.
-use Rattle.std.specs.Prelude.{◌≡◌, ◌≤◌, ◌^◌, ℕ, length, map, true, ◌/◌, ◌%◌, List, Option, Some, None, slice_index_or}
+use Rattle.std.specs.Prelude.{◌≡◌, ◌≤◌, ◌^◌, ◌==◌, ◌&&◌, ℕ, length, map, Bool, true, false, ◌/◌, ◌%◌, List, Option, Some, None, slice_index_or}
 use Rattle.std.specs.Option.{option_map_or}
 use Rattle.std.specs.HashMap.{get, spare}
 use Rattle.row_locks.specs.Entries.{SessionEntries, all_spare, is_same_slot, mark_at, shown}
-use Rattle.row_locks.specs.Marks.{is_on, AreHeldOnce}
-use Rattle.row_locks.specs.declared.mark.Mark.{Mark}
+use Rattle.slot_marks.specs.Marks.{is_on, AreHeldOnce}
+use Rattle.slot_marks.specs.declared.mark.Mark.{Mark}
 use Rattle.row_locks.specs.declared.slots.Hold.{Hold}
 use Rattle.row_locks.specs.declared.slots.SlotIndex.{SlotIndex}
 
@@ -12,9 +12,21 @@ use Rattle.row_locks.specs.declared.slots.SlotIndex.{SlotIndex}
 abbrev pub cell : Option (List (Option Hold)) → ℕ → Option Hold
 cell block at = option_map_or (λ holds. slice_index_or holds at None) block None
 
+-- the block in which a slot is told
+abbrev pub block_at : SlotIndex → ℕ → ℕ → Option (List (Option Hold))
+block_at index id slot = get is_same_slot index.blocks (id / 16, slot)
+
 -- the mark on a slot
 abbrev pub hold_of : SlotIndex → ℕ → ℕ → Option Hold
-hold_of index id slot = cell (get is_same_slot index.blocks (id / 16, slot)) (id % 16)
+hold_of index id slot = cell (block_at index id slot) (id % 16)
+
+-- there is a mark, and it is the session's
+abbrev pub is_held_by : ℕ → Option Hold → Bool
+is_held_by session hold = option_map_or (λ it. it.session == session) hold false
+
+-- and it removed its slot
+abbrev pub is_removed_by : ℕ → Option Hold → Bool
+is_removed_by session hold = option_map_or (λ it. (it.session == session) && it.removed) hold false
 
 -- how many more blocks fit
 abbrev pub room_of : SlotIndex → ℕ

@@ -1,7 +1,8 @@
 // The index of the marks of all sessions by the hash of the names of their groups.
 ghost use Rattle.std.specs.Prelude.{◌≡◌, ◌<◌, ◌≤◌, ◌+◌, ◌-◌, ◌==◌, ◌||◌, ℕ, Some, None, IsSome, OnOk, if◌then◌else◌, false};
 ghost use Rattle.std.specs.Option.{option_map, option_map_or};
-ghost use Rattle.row_locks.specs.Groups.{is_same_rank, is_same_class, cell_of, place_of, count_of, mixed_of, class_room, IsDense};
+ghost use Rattle.row_locks.specs.Changes.{SameValues, SetsValue, SetsAt};
+ghost use Rattle.row_locks.specs.Groups.{cell_of, place_of, count_of, mixed_of, last_rank, taking_over, class_room, PutsPlace, TakesRank, CountsOneMore, CountsOneLess, Mixes, KeepsMixed, IsDense};
 
 use std::alloc::{AllocError, Global};
 use std::collections::HashMap;
@@ -28,7 +29,7 @@ pub(crate) struct ClassCell {
 
 /// The first mark of a class.
 #[derive(Clone, Copy, Debug, PartialEq, Eq)]
-pub(crate) struct Witness {
+pub(crate) struct FirstMark {
     /// Where it stands.
     pub(crate) place: Place,
     /// Whether other marks of its class may have other names.
@@ -56,7 +57,7 @@ impl ClassIndex {
 
     /// Makes room for so many marks.
     pub(crate) fn reserve(&mut self, marks: usize) -> Result<(), AllocError>
-        ensures cells { (names rank : ℕ) → cell_of self.new names rank ≡ cell_of self.old names rank }
+        ensures cells { SameValues (cell_of self.old) (cell_of self.new) }
         ensures ok { OnOk result (marks ≤ class_room self.new) }
         ensures room { class_room self.old ≤ class_room self.new }
     {
@@ -73,13 +74,13 @@ impl ClassIndex {
     }
 
     /// The first mark of a class, or None where the class has no marks.
-    pub(crate) fn witness(&self, names: u64) -> Option<Witness>
+    pub(crate) fn first_mark(&self, names: u64) -> Option<FirstMark>
         ensures place { option_map (λ it. it.place) result ≡ place_of self.now names 0 }
         ensures mixed { option_map_or (λ it. it.mixed) result false ≡ mixed_of self.now names }
     {
         match self.cells.get(&(names, 0)) {
             None => None,
-            Some(cell) => Some(Witness {
+            Some(cell) => Some(FirstMark {
                 place: cell.place,
                 mixed: cell.mixed,
             }),
@@ -102,9 +103,9 @@ impl ClassIndex {
         requires room { 0 < class_room self.old }
         requires dense { IsDense (place_of self.old) (count_of self.old) }
         ensures rank { result ≡ count_of self.old names }
-        ensures places { (k r : ℕ) → place_of self.new k r ≡ (if is_same_rank names (count_of self.old names) k r then Some place else place_of self.old k r) }
-        ensures counts { (k : ℕ) → count_of self.new k ≡ (if is_same_class names k then count_of self.old names + 1 else count_of self.old k) }
-        ensures mixed { (k : ℕ) → mixed_of self.new k ≡ (if is_same_class names k then mixed_of self.old names || differs else mixed_of self.old k) }
+        ensures places { PutsPlace self.old self.new names place }
+        ensures counts { CountsOneMore self.old self.new names }
+        ensures mixed { Mixes self.old self.new names differs }
         ensures room { class_room self.old ≤ class_room self.new + 1 }
     {
         // a class has no more marks than there are
@@ -118,7 +119,7 @@ impl ClassIndex {
         };
         self.insert(names, rank, cell);
         if rank > 0 {
-            self.widen(names, rank + 1, differs);
+            self.set_count(names, rank + 1, differs);
         }
         rank
     }
@@ -128,16 +129,16 @@ impl ClassIndex {
     pub(crate) fn take(&mut self, names: u64, rank: usize) -> Option<Place>
         requires there { rank < count_of self.old names }
         requires dense { IsDense (place_of self.old) (count_of self.old) }
-        ensures moved { result ≡ (if rank == count_of self.old names - 1 then None else place_of self.old names (count_of self.old names - 1)) }
-        ensures places { (k r : ℕ) → place_of self.new k r ≡ (if is_same_rank names (count_of self.old names - 1) k r then None else (if is_same_rank names rank k r then place_of self.old names (count_of self.old names - 1) else place_of self.old k r)) }
-        ensures counts { (k : ℕ) → count_of self.new k ≡ (if is_same_class names k then count_of self.old names - 1 else count_of self.old k) }
-        ensures mixed { (k : ℕ) → 0 < count_of self.new k → mixed_of self.new k ≡ mixed_of self.old k }
+        ensures moved { result ≡ taking_over self.old names rank }
+        ensures places { TakesRank self.old self.new names rank }
+        ensures counts { CountsOneLess self.old self.new names }
+        ensures mixed { KeepsMixed self.old self.new }
         ensures room { class_room self.old ≤ class_room self.new }
     {
         let last = self.count(names) - 1;
         let moved = self.remove(names, last)?;
         if last > 0 {
-            self.widen(names, last, false);
+            self.set_count(names, last, false);
         }
         if rank == last {
             return None;
@@ -157,7 +158,7 @@ impl ClassIndex {
 
     fn insert(&mut self, names: u64, rank: usize, cell: ClassCell)
         requires { 0 < class_room self.old }
-        ensures cells { (k r : ℕ) → cell_of self.new k r ≡ (if is_same_rank names rank k r then Some cell else cell_of self.old k r) }
+        ensures cells { SetsValue (cell_of self.old) (cell_of self.new) names rank (Some cell) }
         ensures room { class_room self.old ≤ class_room self.new + 1 }
     {
         let Ok(_) = self.cells.insert((names, rank), cell) else {
@@ -167,7 +168,7 @@ impl ClassIndex {
 
     fn remove(&mut self, names: u64, rank: usize) -> Option<Place>
         ensures place { result ≡ place_of self.old names rank }
-        ensures cells { (k r : ℕ) → cell_of self.new k r ≡ (if is_same_rank names rank k r then None else cell_of self.old k r) }
+        ensures cells { SetsValue (cell_of self.old) (cell_of self.new) names rank None }
         ensures room { class_room self.old ≤ class_room self.new }
     {
         match self.cells.remove(&(names, rank)) {
@@ -176,11 +177,11 @@ impl ClassIndex {
         }
     }
 
-    fn widen(&mut self, names: u64, count: usize, differs: bool)
+    fn set_count(&mut self, names: u64, count: usize, differs: bool)
         requires { IsSome (cell_of self.old names 0) }
-        ensures places { (k r : ℕ) → place_of self.new k r ≡ place_of self.old k r }
-        ensures counts { (k : ℕ) → count_of self.new k ≡ (if is_same_class names k then count else count_of self.old k) }
-        ensures mixed { (k : ℕ) → mixed_of self.new k ≡ (if is_same_class names k then mixed_of self.old names || differs else mixed_of self.old k) }
+        ensures places { SameValues (place_of self.old) (place_of self.new) }
+        ensures counts { SetsAt (count_of self.old) (count_of self.new) names count }
+        ensures mixed { Mixes self.old self.new names differs }
         ensures room { class_room self.new ≡ class_room self.old }
     {
         if let Some(cell) = self.cells.get_mut(&(names, 0)) {
@@ -191,7 +192,7 @@ impl ClassIndex {
 
     fn set_place(&mut self, names: u64, rank: usize, place: Place)
         requires { IsSome (cell_of self.old names rank) }
-        ensures places { (k r : ℕ) → place_of self.new k r ≡ (if is_same_rank names rank k r then Some place else place_of self.old k r) }
+        ensures places { SetsValue (place_of self.old) (place_of self.new) names rank (Some place) }
         ensures counts { (k : ℕ) → count_of self.new k ≡ count_of self.old k }
         ensures mixed { (k : ℕ) → mixed_of self.new k ≡ mixed_of self.old k }
         ensures room { class_room self.new ≡ class_room self.old }

@@ -1,12 +1,13 @@
 // The places of a session's marks.
-ghost use Rattle.std.specs.Prelude.{◌≡◌, ◌<◌, ◌≤◌, ◌+◌, [], ◌∷◌, ◌++◌, length, slice_set, vec_len, vec_capacity, option_copied, false};
+ghost use Rattle.std.specs.Prelude.{◌≡◌, ◌<◌, ◌≤◌, ◌+◌, [], ◌∷◌, ◌++◌, length, vec_len, vec_capacity, option_copied, false};
 ghost use Rattle.std.specs.Option.{option_map, option_map_or};
-ghost use Rattle.row_locks.specs.Marks.{kept_beside, is_in_group};
-ghost use Rattle.row_locks.specs.Entries.{present, entry_at};
-ghost use Rattle.row_locks.specs.Groups.{group_in, has_names};
+ghost use Rattle.slot_marks.specs.Marks.{kept_beside};
+ghost use Rattle.row_locks.specs.Entries.{present, entry_at, entries_keeping, is_entry_in};
+ghost use Rattle.row_locks.specs.Groups.{group_in, group_meant, have_names};
 
-use crate::mark::{Mark, is_in_group, is_on};
+use crate::groups::GroupRef;
 use payload_records::Name;
+use slot_marks::Mark;
 
 /// Puts an item last, where there is room.
 pub(crate) fn put_last<T: Drop>(items: &mut Vec<T>, item: T)
@@ -23,7 +24,7 @@ pub(crate) fn put_last<T: Drop>(items: &mut Vec<T>, item: T)
 /// Makes the mark at a place removed where the new one is.
 pub(crate) fn keep_at(entries: &mut Vec<Option<Mark>>, at: usize, new: &Mark)
     requires { at < length entries.old.items }
-    ensures items { entries.new.items ≡ slice_set entries.old.items at (option_map (kept_beside new.now) (entry_at entries.old.items at)) }
+    ensures items { entries.new.items ≡ entries_keeping entries.old.items at new.now }
     ensures len { vec_len entries.new ≡ vec_len entries.old }
     ensures capacity { vec_capacity entries.old ≤ vec_capacity entries.new }
 {
@@ -53,17 +54,11 @@ pub(crate) fn moved(entries: Vec<Option<Mark>>, mut room: Vec<Mark>) -> Vec<Mark
 }
 
 /// Whether the mark at a place is in the group.
-pub(crate) fn is_entry_in_group(
-    entries: &[Option<Mark>],
-    at: usize,
-    queue: &Name,
-    number: u64,
-    consumer: Option<&Name>,
-) -> bool
-    ensures { result ≡ option_map_or (is_in_group (record { queue = queue.now; number = number; consumer = option_copied consumer.entry })) (entry_at entries.now at) false }
+pub(crate) fn is_entry_in_group(entries: &[Option<Mark>], at: usize, group: GroupRef<'_>) -> bool
+    ensures { result ≡ is_entry_in (group_meant group.entry) (entry_at entries.now at) }
 {
     match entries.get(at) {
-        Some(Some(mark)) => is_in_group(mark, queue, number, consumer),
+        Some(Some(mark)) => mark.is_in_group(group.queue, group.number, group.consumer),
         _ => false,
     }
 }
@@ -75,7 +70,8 @@ pub(crate) fn has_entry_names(
     queue: &Name,
     consumer: Option<&Name>,
 ) -> bool
-    ensures { result ≡ option_map_or (has_names queue.now (option_copied consumer.entry)) (group_in (entry_at entries.now at)) false }
+    ensures { let group = group_in (entry_at entries.now at) in
+        result ≡ have_names queue.now (option_copied consumer.entry) group }
 {
     match entries.get(at) {
         Some(Some(mark)) => has_names(mark, queue, consumer),
@@ -84,18 +80,18 @@ pub(crate) fn has_entry_names(
 }
 
 fn has_names(mark: &Mark, queue: &Name, consumer: Option<&Name>) -> bool
-    ensures { result ≡ option_map_or (has_names queue.now (option_copied consumer.entry)) mark.now.group false }
+    ensures { result ≡ have_names queue.now (option_copied consumer.entry) mark.now.group }
 {
     match &mark.group {
         None => false,
-        Some(group) => is_in_group(mark, queue, group.number, consumer),
+        Some(group) => mark.is_in_group(queue, group.number, consumer),
     }
 }
 
 fn keep_beside(new: &Mark, own: &mut Mark)
     ensures { own.new ≡ kept_beside new.now own.old }
 {
-    if is_on(own, new.id, new.slot) {
+    if own.is_on(new.id, new.slot) {
         own.removed |= new.removed;
     }
 }

@@ -2,13 +2,13 @@
 ghost use Rattle.std.specs.Prelude.{◌≡◌, ◌<◌, ◌≤◌, ◌+◌, ◌-◌, ◌==◌, ◌||◌, ℕ, Option, Some, None, OnOk, if◌then◌else◌, option_copied, false};
 ghost use Rattle.std.specs.Hash.FoldHasher.{finish};
 ghost use Rattle.std.specs.Option.{option_map, option_map_or};
-ghost use Rattle.row_locks.specs.Entries.{is_same_slot};
-ghost use Rattle.row_locks.specs.Groups.{names_hashed, key_of, is_same_rank, is_same_class, cell_of, place_of, count_of, mixed_of, hold_in, held_count, counted_in, counted_out, group_room, IsDense};
+ghost use Rattle.row_locks.specs.Changes.{SameValues};
+ghost use Rattle.row_locks.specs.Groups.{names_hashed, group_meant, key_of, cell_of, place_of, count_of, mixed_of, taking_over, hold_in, key_hold, held_count, group_room, PutsPlace, TakesRank, CountsOneMore, CountsOneLess, Mixes, KeepsMixed, CountsIn, CountsOut, IsDense};
 
-use crate::classes::{ClassIndex, Place, Witness};
+use crate::classes::{ClassIndex, FirstMark, Place};
 use crate::holds::GroupHolds;
-use crate::mark::{Group, Mark};
 use payload_records::Name;
+use slot_marks::{Group, Mark};
 use std::alloc::{AllocError, Global};
 use std::hash::{FoldHasher, Hasher};
 
@@ -21,6 +21,17 @@ pub(crate) struct GroupKey {
     pub(crate) names: u64,
 }
 
+/// A group as it is asked for.
+#[derive(Clone, Copy)]
+pub(crate) struct GroupRef<'a> {
+    /// The queue in which the messages stand.
+    pub(crate) queue: &'a Name,
+    /// The number of the commit's group.
+    pub(crate) number: u64,
+    /// The consumer, where the queue has consumers.
+    pub(crate) consumer: Option<&'a Name>,
+}
+
 /// The index of the marks of all sessions by their groups. Where the marks of a class have the same names, a group of the
 /// class is held by the session that its key tells.
 #[derive(Drop)]
@@ -30,12 +41,12 @@ pub(crate) struct GroupIndex {
 }
 
 /// The key of a group.
-pub(crate) fn group_key(queue: &Name, number: u64, consumer: Option<&Name>) -> GroupKey
-    ensures { result ≡ key_of (record { queue = queue.now; number = number; consumer = option_copied consumer.entry }) }
+pub(crate) fn group_key(group: GroupRef<'_>) -> GroupKey
+    ensures { result ≡ key_of (group_meant group.entry) }
 {
     GroupKey {
-        number,
-        names: hash_of_names(queue, consumer),
+        number: group.number,
+        names: hash_of_names(group.queue, group.consumer),
     }
 }
 
@@ -53,7 +64,11 @@ pub(crate) fn mark_key(mark: &Mark) -> Option<GroupKey>
 pub(crate) fn key_of_group(group: &Group) -> GroupKey
     ensures { result ≡ key_of group.now }
 {
-    group_key(&group.queue, group.number, group.consumer.as_ref())
+    group_key(GroupRef {
+        queue: &group.queue,
+        number: group.number,
+        consumer: group.consumer.as_ref(),
+    })
 }
 
 fn hash_of_names(queue: &Name, consumer: Option<&Name>) -> u64
@@ -85,8 +100,8 @@ impl GroupIndex {
 
     /// Makes room for so many marks.
     pub(crate) fn reserve(&mut self, marks: usize) -> Result<(), AllocError>
-        ensures cells { (names rank : ℕ) → cell_of self.new.classes names rank ≡ cell_of self.old.classes names rank }
-        ensures holds { (number names : ℕ) → hold_in self.new.holds number names ≡ hold_in self.old.holds number names }
+        ensures cells { SameValues (cell_of self.old.classes) (cell_of self.new.classes) }
+        ensures holds { SameValues (hold_in self.old.holds) (hold_in self.new.holds) }
         ensures ok { OnOk result (marks ≤ group_room self.new) }
         ensures room { group_room self.old ≤ group_room self.new }
     {
@@ -103,11 +118,11 @@ impl GroupIndex {
     }
 
     /// The first mark of a class, or None where the class has no marks.
-    pub(crate) fn witness(&self, names: u64) -> Option<Witness>
+    pub(crate) fn first_mark(&self, names: u64) -> Option<FirstMark>
         ensures place { option_map (λ it. it.place) result ≡ place_of self.now.classes names 0 }
         ensures mixed { option_map_or (λ it. it.mixed) result false ≡ mixed_of self.now.classes names }
     {
-        self.classes.witness(names)
+        self.classes.first_mark(names)
     }
 
     /// Where the mark with a rank stands, or None where the class has no such rank.
@@ -119,7 +134,7 @@ impl GroupIndex {
 
     /// The session that took the last mark with a key, or None where there is no such mark.
     pub(crate) fn session_of(&self, key: GroupKey) -> Option<u32>
-        ensures { result ≡ option_map (λ it. it.session) (hold_in self.now.holds key.number key.names) }
+        ensures { result ≡ option_map (λ it. it.session) (key_hold self.now.holds key) }
     {
         self.holds.session_of(key)
     }
@@ -129,12 +144,12 @@ impl GroupIndex {
     pub(crate) fn put(&mut self, key: GroupKey, place: Place, differs: bool) -> usize
         requires room { 0 < group_room self.old }
         requires dense { IsDense (place_of self.old.classes) (count_of self.old.classes) }
-        requires counts { held_count (hold_in self.old.holds key.number key.names) ≤ count_of self.old.classes key.names }
+        requires counts { held_count (key_hold self.old.holds key) ≤ count_of self.old.classes key.names }
         ensures rank { result ≡ count_of self.old.classes key.names }
-        ensures places { (k r : ℕ) → place_of self.new.classes k r ≡ (if is_same_rank key.names (count_of self.old.classes key.names) k r then Some place else place_of self.old.classes k r) }
-        ensures counts { (k : ℕ) → count_of self.new.classes k ≡ (if is_same_class key.names k then count_of self.old.classes key.names + 1 else count_of self.old.classes k) }
-        ensures mixed { (k : ℕ) → mixed_of self.new.classes k ≡ (if is_same_class key.names k then mixed_of self.old.classes key.names || differs else mixed_of self.old.classes k) }
-        ensures holds { (n h : ℕ) → hold_in self.new.holds n h ≡ (if is_same_slot (key.number, key.names) (n, h) then Some (counted_in place.session (hold_in self.old.holds key.number key.names)) else hold_in self.old.holds n h) }
+        ensures places { PutsPlace self.old.classes self.new.classes key.names place }
+        ensures counts { CountsOneMore self.old.classes self.new.classes key.names }
+        ensures mixed { Mixes self.old.classes self.new.classes key.names differs }
+        ensures holds { CountsIn self.old.holds self.new.holds key place.session }
         ensures room { group_room self.old ≤ group_room self.new + 1 }
     {
         // no more marks have the key than there are
@@ -149,11 +164,11 @@ impl GroupIndex {
     pub(crate) fn take(&mut self, key: GroupKey, rank: usize) -> Option<Place>
         requires there { rank < count_of self.old.classes key.names }
         requires dense { IsDense (place_of self.old.classes) (count_of self.old.classes) }
-        ensures moved { result ≡ (if rank == count_of self.old.classes key.names - 1 then None else place_of self.old.classes key.names (count_of self.old.classes key.names - 1)) }
-        ensures places { (k r : ℕ) → place_of self.new.classes k r ≡ (if is_same_rank key.names (count_of self.old.classes key.names - 1) k r then None else (if is_same_rank key.names rank k r then place_of self.old.classes key.names (count_of self.old.classes key.names - 1) else place_of self.old.classes k r)) }
-        ensures counts { (k : ℕ) → count_of self.new.classes k ≡ (if is_same_class key.names k then count_of self.old.classes key.names - 1 else count_of self.old.classes k) }
-        ensures mixed { (k : ℕ) → 0 < count_of self.new.classes k → mixed_of self.new.classes k ≡ mixed_of self.old.classes k }
-        ensures holds { (n h : ℕ) → hold_in self.new.holds n h ≡ (if is_same_slot (key.number, key.names) (n, h) then counted_out (hold_in self.old.holds key.number key.names) else hold_in self.old.holds n h) }
+        ensures moved { result ≡ taking_over self.old.classes key.names rank }
+        ensures places { TakesRank self.old.classes self.new.classes key.names rank }
+        ensures counts { CountsOneLess self.old.classes self.new.classes key.names }
+        ensures mixed { KeepsMixed self.old.classes self.new.classes }
+        ensures holds { CountsOut self.old.holds self.new.holds key }
         ensures room { group_room self.old ≤ group_room self.new }
     {
         self.holds.count_out(key);

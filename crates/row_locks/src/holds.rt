@@ -1,9 +1,8 @@
 // How many marks of all sessions are of each group, and who has them.
 ghost use Rattle.std.specs.Prelude.{◌≡◌, ◌<◌, ◌≤◌, ◌+◌, ◌/◌, ℕ, Some, None, IsSome, OnOk, true, nat_eq, if◌then◌else◌};
-ghost use Rattle.std.specs.HashMap.{get};
 ghost use Rattle.std.specs.Option.{option_map};
-ghost use Rattle.row_locks.specs.Entries.{is_same_slot};
-ghost use Rattle.row_locks.specs.Groups.{hold_at, block_hold, hold_in, hold_room, held_count, counted_in, counted_out};
+ghost use Rattle.row_locks.specs.Changes.{SameValues};
+ghost use Rattle.row_locks.specs.Groups.{hold_at, block_hold, block_of, hold_in, key_hold, hold_room, held_count, counted_out, SetsHold, CountsIn, CountsOut};
 
 use crate::groups::GroupKey;
 use std::alloc::{AllocError, Global};
@@ -49,7 +48,7 @@ impl GroupHolds {
 
     /// Makes room for so many marks.
     pub(crate) fn reserve(&mut self, marks: usize) -> Result<(), AllocError>
-        ensures holds { (number names : ℕ) → hold_in self.new number names ≡ hold_in self.old number names }
+        ensures holds { SameValues (hold_in self.old) (hold_in self.new) }
         ensures ok { OnOk result (marks ≤ hold_room self.new) }
         ensures room { hold_room self.old ≤ hold_room self.new }
     {
@@ -58,7 +57,7 @@ impl GroupHolds {
 
     /// The session that took the last mark with a key.
     pub(crate) fn session_of(&self, key: GroupKey) -> Option<u32>
-        ensures { result ≡ option_map (λ it. it.session) (hold_in self.now key.number key.names) }
+        ensures { result ≡ option_map (λ it. it.session) (key_hold self.now key) }
     {
         match self.blocks.get(&(key.number / BLOCK, key.names)) {
             None => None,
@@ -69,8 +68,8 @@ impl GroupHolds {
     /// Counts one more mark of a session, where there is room.
     pub(crate) fn count_in(&mut self, key: GroupKey, session: u32)
         requires room { 0 < hold_room self.old }
-        requires fits { held_count (hold_in self.old key.number key.names) < usize.MAX }
-        ensures holds { (n h : ℕ) → hold_in self.new n h ≡ (if is_same_slot (key.number, key.names) (n, h) then Some (counted_in session (hold_in self.old key.number key.names)) else hold_in self.old n h) }
+        requires fits { held_count (key_hold self.old key) < usize.MAX }
+        ensures holds { CountsIn self.old self.new key session }
         ensures room { hold_room self.old ≤ hold_room self.new + 1 }
     {
         let hold = GroupHold {
@@ -85,7 +84,7 @@ impl GroupHolds {
 
     /// Counts one mark less. It takes no memory.
     pub(crate) fn count_out(&mut self, key: GroupKey)
-        ensures holds { (n h : ℕ) → hold_in self.new n h ≡ (if is_same_slot (key.number, key.names) (n, h) then counted_out (hold_in self.old key.number key.names) else hold_in self.old n h) }
+        ensures holds { CountsOut self.old self.new key }
         ensures room { hold_room self.old ≤ hold_room self.new }
     {
         let left = counted_out(self.find(key));
@@ -96,7 +95,7 @@ impl GroupHolds {
     }
 
     fn find(&self, key: GroupKey) -> Option<GroupHold>
-        ensures { result ≡ hold_in self.now key.number key.names }
+        ensures { result ≡ key_hold self.now key }
     {
         match self.blocks.get(&(key.number / BLOCK, key.names)) {
             None => None,
@@ -105,7 +104,7 @@ impl GroupHolds {
     }
 
     fn count(&self, key: GroupKey) -> usize
-        ensures { result ≡ held_count (hold_in self.now key.number key.names) }
+        ensures { result ≡ held_count (key_hold self.now key) }
     {
         match self.find(key) {
             None => 0,
@@ -115,9 +114,9 @@ impl GroupHolds {
 
     fn begin(&mut self, key: GroupKey)
         requires room { 0 < hold_room self.old }
-        requires absent { get is_same_slot self.old.blocks (key.number / 16, key.names) ≡ None }
-        ensures there { IsSome (get is_same_slot self.new.blocks (key.number / 16, key.names)) }
-        ensures holds { (n h : ℕ) → hold_in self.new n h ≡ hold_in self.old n h }
+        requires absent { block_of self.old key ≡ None }
+        ensures there { IsSome (block_of self.new key) }
+        ensures holds { SameValues (hold_in self.old) (hold_in self.new) }
         ensures room { hold_room self.old ≤ hold_room self.new + 1 }
     {
         let blank = GroupBlock {
@@ -130,8 +129,8 @@ impl GroupHolds {
     }
 
     fn write(&mut self, key: GroupKey, hold: Option<GroupHold>)
-        requires there { IsSome (get is_same_slot self.old.blocks (key.number / 16, key.names)) }
-        ensures holds { (n h : ℕ) → hold_in self.new n h ≡ (if is_same_slot (key.number, key.names) (n, h) then hold else hold_in self.old n h) }
+        requires there { IsSome (block_of self.old key) }
+        ensures holds { SetsHold self.old self.new key hold }
         ensures room { hold_room self.new ≡ hold_room self.old }
     {
         if let Some(block) = self.blocks.get_mut(&(key.number / BLOCK, key.names)) {
@@ -140,7 +139,7 @@ impl GroupHolds {
     }
 
     fn end_empty(&mut self, key: GroupKey)
-        ensures holds { (n h : ℕ) → hold_in self.new n h ≡ hold_in self.old n h }
+        ensures holds { SameValues (hold_in self.old) (hold_in self.new) }
         ensures room { hold_room self.old ≤ hold_room self.new }
     {
         if self.is_empty_block(key) {
@@ -149,7 +148,7 @@ impl GroupHolds {
     }
 
     fn is_empty_block(&self, key: GroupKey) -> bool
-        ensures { result ≡ true → (at : ℕ) → block_hold (get is_same_slot self.now.blocks (key.number / 16, key.names)) at ≡ None }
+        ensures { result ≡ true → (at : ℕ) → block_hold (block_of self.now key) at ≡ None }
     {
         match self.blocks.get(&(key.number / BLOCK, key.names)) {
             None => false,

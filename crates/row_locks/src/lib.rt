@@ -6,13 +6,9 @@ mod entries;
 mod groups;
 mod holds;
 mod locks;
-mod mark;
 mod session_table;
 mod slots;
 mod tables;
 
 pub use locks::{LockFault, RowLocks};
-pub use mark::{Group, Mark};
-
-#[cfg(test)]
-mod tests;
+pub use slot_marks::{Group, Mark};

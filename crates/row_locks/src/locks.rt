@@ -1,12 +1,12 @@
 // The marks of all sessions.
 ghost use Rattle.std.specs.Prelude.{◌≡◌, ◌≢◌, ◌<◌, ◌≤◌, ◌+◌, ◌-◌, ◌^◌, ◌⊎◌, ℕ, List as Sequence, [], ◌∷◌, ◌++◌, map, length, slice_set, slice_index_or, false, IsTrue, IfSome, IfNone, IfErr, Some, None, Ok, Err, OnOk, OnErr, option_copied};
 ghost use Rattle.std.specs.Option.{option_map};
-ghost use Rattle.row_locks.specs.Marks.{marks_of, spare_of, no_marks, has_slot, has_removed, kept_beside, taken, released, IsHolder, IsFreeSlot, IsFreeGroup, HasSlot, HasGroup, IsOtherHolder, IsFreeFor, NoOtherHasSlot, NoOtherHasGroup, SameMarks, ChangesOnly, AreHeldOnce};
+ghost use Rattle.slot_marks.specs.Marks.{marks_of, spare_of, no_marks, has_slot, has_removed, kept_beside, taken, released, IsHolder, IsFreeSlot, IsFreeGroup, HasSlot, HasGroup, IsOtherHolder, IsFreeFor, NoOtherHasSlot, NoOtherHasGroup, SameMarks, ChangesOnly, AreHeldOnce};
+ghost use Rattle.row_locks.specs.Groups.{group_asked, group_meant};
 ghost use Rattle.row_locks.specs.declared.locks.LockFault.TheVariants.{Held, Memory};
 
 use crate::classes::Place;
-use crate::groups::GroupIndex;
-use crate::mark::{Group, Mark};
+use crate::groups::{GroupIndex, GroupRef};
 use crate::session_table::SessionTable;
 use crate::slots::SlotIndex;
 use crate::tables::{
@@ -14,6 +14,7 @@ use crate::tables::{
     reserve_at, spare_at,
 };
 use payload_records::{List, Name};
+use slot_marks::{Group, Mark};
 use std::alloc::{AllocError, Global};
 use std::marker::Model;
 
@@ -30,7 +31,7 @@ pub struct RowLocks {
 
 impl Model for RowLocks {
     ghost use Rattle.std.specs.Prelude.{List as Sequence, map};
-    ghost use Rattle.row_locks.specs.Marks.{SessionMarks};
+    ghost use Rattle.slot_marks.specs.Marks.{SessionMarks};
     ghost use Rattle.row_locks.specs.Entries.{shown};
     ghost use Rattle.row_locks.specs.Slots.{hold_of, room_of, IsSound};
     ghost use Rattle.row_locks.specs.Groups.{AreGrouped};
@@ -39,7 +40,8 @@ impl Model for RowLocks {
 
     ghost view = { λ l. map shown l.sessions.items };
 
-    ghost invariant = { λ l. IsSound l.sessions.items (hold_of l.slots) l.spare (room_of l.slots) × AreGrouped l.sessions.items l.groups l.spare };
+    ghost invariant = { λ l. IsSound l.sessions.items (hold_of l.slots) l.spare (room_of l.slots)
+        × AreGrouped l.sessions.items l.groups l.spare };
 }
 
 /// Why a mark was not taken.
@@ -102,7 +104,8 @@ impl RowLocks {
     pub fn take(&mut self, session: u32, mark: Mark) -> Result<(), LockFault>
         ensures ok { OnOk result (marks_of self.new session ≡ taken (marks_of self.old session) mark) }
         ensures room { OnOk result (spare_of self.old session ≤ spare_of self.new session + 1) }
-        ensures held { (other : ℕ) → result ≡ Err (Held other) → IsOtherHolder self.old session mark other }
+        ensures held { (other : ℕ) → result ≡ Err (Held other)
+            → IsOtherHolder self.old session mark other }
         ensures free { (result ≡ Ok tt) ⊎ (result ≡ Err Memory) → IsFreeFor self.old session mark }
         ensures memory { result ≡ Err Memory → spare_of self.old session ≡ 0 }
         ensures err { OnErr result (SameMarks self.old self.new) }
@@ -130,9 +133,11 @@ impl RowLocks {
         number: Option<u64>,
         consumer: Option<&Name>,
     ) -> Option<u32>
-        ensures some { let group = option_map (λ n. record { queue = queue.now; number = n; consumer = option_copied consumer.entry }) number in IfSome result (IsHolder self.now id slot group) }
+        ensures some { let group = group_asked queue.now number (option_copied consumer.entry) in
+            IfSome result (IsHolder self.now id slot group) }
         ensures free_slot { IfNone result (IsFreeSlot self.now id slot) }
-        ensures free_group { let group = option_map (λ n. record { queue = queue.now; number = n; consumer = option_copied consumer.entry }) number in IfNone result (IsFreeGroup self.now group) }
+        ensures free_group { let group = group_asked queue.now number (option_copied consumer.entry) in
+            IfNone result (IsFreeGroup self.now group) }
         ensures once { AreHeldOnce self.now }
     {
         let holder = self.slot_holder(id, slot);
@@ -141,7 +146,11 @@ impl RowLocks {
         }
         match number {
             None => None,
-            Some(number) => self.group_holder(queue, number, consumer),
+            Some(number) => self.group_holder(GroupRef {
+                queue,
+                number,
+                consumer,
+            }),
         }
     }
 
@@ -220,7 +229,11 @@ impl RowLocks {
         let _ = &self.sessions;
         match group {
             None => None,
-            Some(group) => self.group_holder(&group.queue, group.number, group.consumer.as_ref()),
+            Some(group) => self.group_holder(GroupRef {
+                queue: &group.queue,
+                number: group.number,
+                consumer: group.consumer.as_ref(),
+            }),
         }
     }
 
@@ -285,11 +298,11 @@ impl RowLocks {
         }
     }
 
-    fn group_holder(&self, queue: &Name, number: u64, consumer: Option<&Name>) -> Option<u32>
-        ensures some { let group = Some (record { queue = queue.now; number = number; consumer = option_copied consumer.entry }) in IfSome result (HasGroup self.now group) }
-        ensures none { let group = Some (record { queue = queue.now; number = number; consumer = option_copied consumer.entry }) in IfNone result (IsFreeGroup self.now group) }
+    fn group_holder(&self, group: GroupRef<'_>) -> Option<u32>
+        ensures some { IfSome result (HasGroup self.now (Some (group_meant group.entry))) }
+        ensures none { IfNone result (IsFreeGroup self.now (Some (group_meant group.entry))) }
     {
-        find_holder(&self.sessions, &self.groups, queue, number, consumer)
+        find_holder(&self.sessions, &self.groups, group)
     }
 
     fn has_own(&self, session: u32, id: u64, slot: u32) -> bool

@@ -1,14 +1,13 @@
 // The marks of one session.
 ghost use Rattle.std.specs.Prelude.{◌≡◌, ◌<◌, [], Some, None, OnOk, OnErr, length, slice_index_or, option_copied, false};
 ghost use Rattle.std.specs.Option.{option_map, option_map_or};
-ghost use Rattle.row_locks.specs.Marks.{is_in_group, kept_beside};
-ghost use Rattle.row_locks.specs.Entries.{present, entry_at, no_entries, with_mark, with_entry, with_rank, with_room};
-ghost use Rattle.row_locks.specs.Groups.{key_of, group_in, has_names};
+ghost use Rattle.row_locks.specs.Entries.{present, entry_at, kept_entry, is_entry_in, no_entries, with_mark, with_entry, with_rank, with_room, IsAligned};
+ghost use Rattle.row_locks.specs.Groups.{key_of, group_in, group_meant, have_names};
 
 use crate::entries::{has_entry_names, is_entry_in_group, keep_at, moved, put_last};
-use crate::groups::{GroupKey, mark_key};
-use crate::mark::Mark;
+use crate::groups::{GroupKey, GroupRef, mark_key};
 use payload_records::Name;
+use slot_marks::Mark;
 use std::alloc::{AllocError, Global};
 use std::marker::Model;
 use std::mem;
@@ -31,7 +30,12 @@ impl Model for SessionTable {
 
     ghost view = { λ t. record { entries = t.entries.items; ranks = t.ranks.items; spare = t.spare } };
 
-    ghost invariant = { λ t. (vec_len t.entries + t.spare ≤ vec_capacity t.entries) × (vec_len t.ranks ≡ vec_len t.entries) × (vec_len t.entries + t.spare ≤ vec_capacity t.ranks) × (t.room.items ≡ []) × (vec_len t.entries + t.spare ≤ vec_capacity t.room) × (vec_len t.entries + t.spare < 2 ^ 32) };
+    ghost invariant = { λ t. (vec_len t.entries + t.spare ≤ vec_capacity t.entries)
+        × (vec_len t.ranks ≡ vec_len t.entries)
+        × (vec_len t.entries + t.spare ≤ vec_capacity t.ranks)
+        × (t.room.items ≡ [])
+        × (vec_len t.entries + t.spare ≤ vec_capacity t.room)
+        × (vec_len t.entries + t.spare < 2 ^ 32) };
 }
 
 impl SessionTable {
@@ -67,7 +71,7 @@ impl SessionTable {
     pub(crate) fn put(&mut self, mark: Mark, rank: Option<usize>)
         requires { 0 < self.old.spare }
         ensures put { self.new ≡ with_mark self.old mark rank }
-        ensures whole { length self.old.ranks ≡ length self.old.entries }
+        ensures whole { IsAligned self.old }
     {
         put_last(&mut self.entries, Some(mark));
         put_last(&mut self.ranks, rank);
@@ -98,21 +102,16 @@ impl SessionTable {
     }
 
     /// Whether the mark at a place is in the group.
-    pub(crate) fn is_in_group_at(
-        &self,
-        at: usize,
-        queue: &Name,
-        number: u64,
-        consumer: Option<&Name>,
-    ) -> bool
-        ensures { result ≡ option_map_or (is_in_group (record { queue = queue.now; number = number; consumer = option_copied consumer.entry })) (entry_at self.now.entries at) false }
+    pub(crate) fn is_in_group_at(&self, at: usize, group: GroupRef<'_>) -> bool
+        ensures { result ≡ is_entry_in (group_meant group.entry) (entry_at self.now.entries at) }
     {
-        is_entry_in_group(self.entries.as_slice(), at, queue, number, consumer)
+        is_entry_in_group(self.entries.as_slice(), at, group)
     }
 
     /// Whether the mark at a place is in a group with those names.
     pub(crate) fn has_names_at(&self, at: usize, queue: &Name, consumer: Option<&Name>) -> bool
-        ensures { result ≡ option_map_or (has_names queue.now (option_copied consumer.entry)) (group_in (entry_at self.now.entries at)) false }
+        ensures { let group = group_in (entry_at self.now.entries at) in
+            result ≡ have_names queue.now (option_copied consumer.entry) group }
     {
         has_entry_names(self.entries.as_slice(), at, queue, consumer)
     }
@@ -122,7 +121,7 @@ impl SessionTable {
         requires { at < length self.old.entries }
         ensures rank { result ≡ slice_index_or self.old.ranks at None }
         ensures rest { self.new ≡ with_rank self.old at None }
-        ensures whole { length self.old.ranks ≡ length self.old.entries }
+        ensures whole { IsAligned self.old }
     {
         mem::replace(&mut self.ranks[at], None)
     }
@@ -131,7 +130,7 @@ impl SessionTable {
     pub(crate) fn set_rank(&mut self, at: usize, rank: usize)
         requires { at < length self.old.entries }
         ensures rest { self.new ≡ with_rank self.old at (Some rank) }
-        ensures whole { length self.old.ranks ≡ length self.old.entries }
+        ensures whole { IsAligned self.old }
     {
         self.ranks[at] = Some(rank);
     }
@@ -139,7 +138,7 @@ impl SessionTable {
     /// Makes the mark at a place removed where the new one is.
     pub(crate) fn keep_at(&mut self, at: usize, new: &Mark)
         requires { at < length self.old.entries }
-        ensures { self.new ≡ with_entry self.old at (option_map (kept_beside new.now) (entry_at self.old.entries at)) }
+        ensures { self.new ≡ with_entry self.old at (kept_entry new.now self.old.entries at) }
     {
         keep_at(&mut self.entries, at, new);
     }

@@ -1,12 +1,10 @@
 // The index of the marks of all sessions by their slots.
 ghost use Rattle.std.specs.Prelude.{◌≡◌, ◌<◌, ◌≤◌, ◌+◌, ◌/◌, ◌%◌, ℕ, Some, None, IsSome, IfSome, IfNone, OnOk, true, false, ◌==◌, ◌&&◌, if◌then◌else◌, length, slice_index_or, slice_set};
-ghost use Rattle.std.specs.HashMap.{get};
-ghost use Rattle.std.specs.Option.{option_map_or};
-ghost use Rattle.row_locks.specs.Marks.{has_slot};
-ghost use Rattle.row_locks.specs.Entries.{is_same_slot};
-ghost use Rattle.row_locks.specs.Slots.{hold_of, room_of, cell};
+ghost use Rattle.slot_marks.specs.Marks.{has_slot};
+ghost use Rattle.row_locks.specs.Changes.{SameValues, SetsValue};
+ghost use Rattle.row_locks.specs.Slots.{hold_of, room_of, cell, block_at, is_held_by, is_removed_by};
 
-use crate::mark::Mark;
+use slot_marks::Mark;
 use std::alloc::{AllocError, Global};
 use std::collections::HashMap;
 
@@ -43,7 +41,7 @@ impl SlotIndex {
 
     /// Makes room for so many marks.
     pub(crate) fn reserve(&mut self, marks: usize) -> Result<(), AllocError>
-        ensures holds { (id slot : ℕ) → hold_of self.new id slot ≡ hold_of self.old id slot }
+        ensures holds { SameValues (hold_of self.old) (hold_of self.new) }
         ensures ok { OnOk result (marks ≤ room_of self.new) }
         ensures room { room_of self.old ≤ room_of self.new }
     {
@@ -64,7 +62,7 @@ impl SlotIndex {
     pub(crate) fn find_own(&self, session: u32, id: u64, slot: u32) -> Option<Hold>
         ensures some { IfSome result (λ hold. hold_of self.now id slot ≡ Some hold) }
         ensures own { IfSome result (λ hold. hold.session ≡ session) }
-        ensures none { IfNone result (option_map_or (λ hold. hold.session == session) (hold_of self.now id slot) false ≡ false) }
+        ensures none { IfNone result (is_held_by session (hold_of self.now id slot) ≡ false) }
     {
         let hold = self.find(id, slot)?;
         if hold.session == session {
@@ -76,7 +74,7 @@ impl SlotIndex {
 
     /// Whether the session has a mark on a slot.
     pub(crate) fn is_held_by(&self, session: u32, id: u64, slot: u32) -> bool
-        ensures { result ≡ option_map_or (λ hold. hold.session == session) (hold_of self.now id slot) false }
+        ensures { result ≡ is_held_by session (hold_of self.now id slot) }
     {
         match self.find(id, slot) {
             None => false,
@@ -86,7 +84,7 @@ impl SlotIndex {
 
     /// Whether the session has a mark on a slot by which it removed the slot.
     pub(crate) fn is_removed_by(&self, session: u32, id: u64, slot: u32) -> bool
-        ensures { result ≡ option_map_or (λ hold. (hold.session == session) && hold.removed) (hold_of self.now id slot) false }
+        ensures { result ≡ is_removed_by session (hold_of self.now id slot) }
     {
         match self.find(id, slot) {
             None => false,
@@ -97,7 +95,7 @@ impl SlotIndex {
     /// Puts a mark in, where there is room.
     pub(crate) fn put(&mut self, id: u64, slot: u32, hold: Hold)
         requires { 0 < room_of self.old }
-        ensures holds { (i s : ℕ) → hold_of self.new i s ≡ (if is_same_slot (id, slot) (i, s) then Some hold else hold_of self.old i s) }
+        ensures holds { SetsValue (hold_of self.old) (hold_of self.new) id slot (Some hold) }
         ensures room { room_of self.old ≤ room_of self.new + 1 }
     {
         if !self.blocks.contains_key(&(id / BLOCK, slot)) {
@@ -108,9 +106,9 @@ impl SlotIndex {
 
     fn begin(&mut self, id: u64, slot: u32)
         requires room { 0 < room_of self.old }
-        requires absent { get is_same_slot self.old.blocks (id / 16, slot) ≡ None }
-        ensures there { IsSome (get is_same_slot self.new.blocks (id / 16, slot)) }
-        ensures holds { (i s : ℕ) → hold_of self.new i s ≡ hold_of self.old i s }
+        requires absent { block_at self.old id slot ≡ None }
+        ensures there { IsSome (block_at self.new id slot) }
+        ensures holds { SameValues (hold_of self.old) (hold_of self.new) }
         ensures room { room_of self.old ≤ room_of self.new + 1 }
     {
         let Ok(_) = self.blocks.insert((id / BLOCK, slot), [None; 16]) else {
@@ -119,8 +117,8 @@ impl SlotIndex {
     }
 
     fn write(&mut self, id: u64, slot: u32, hold: Option<Hold>)
-        requires there { IsSome (get is_same_slot self.old.blocks (id / 16, slot)) }
-        ensures holds { (i s : ℕ) → hold_of self.new i s ≡ (if is_same_slot (id, slot) (i, s) then hold else hold_of self.old i s) }
+        requires there { IsSome (block_at self.old id slot) }
+        ensures holds { SetsValue (hold_of self.old) (hold_of self.new) id slot hold }
         ensures room { room_of self.new ≡ room_of self.old }
     {
         if let Some(holds) = self.blocks.get_mut(&(id / BLOCK, slot)) {
@@ -131,7 +129,7 @@ impl SlotIndex {
     /// Writes what the mark on a slot is now.
     pub(crate) fn change(&mut self, id: u64, slot: u32, hold: Hold)
         requires { IsSome (hold_of self.old id slot) }
-        ensures holds { (i s : ℕ) → hold_of self.new i s ≡ (if is_same_slot (id, slot) (i, s) then Some hold else hold_of self.old i s) }
+        ensures holds { SetsValue (hold_of self.old) (hold_of self.new) id slot (Some hold) }
         ensures room { room_of self.new ≡ room_of self.old }
     {
         self.write(id, slot, Some(hold));
@@ -139,7 +137,7 @@ impl SlotIndex {
 
     /// Takes the mark on a slot out, where there is one. It takes no memory.
     pub(crate) fn take(&mut self, id: u64, slot: u32)
-        ensures holds { (i s : ℕ) → hold_of self.new i s ≡ (if is_same_slot (id, slot) (i, s) then None else hold_of self.old i s) }
+        ensures holds { SetsValue (hold_of self.old) (hold_of self.new) id slot None }
         ensures room { room_of self.old ≤ room_of self.new }
     {
         if self.blocks.contains_key(&(id / BLOCK, slot)) {
@@ -150,7 +148,8 @@ impl SlotIndex {
 
     /// Takes the marks on all those slots out. It takes no memory.
     pub(crate) fn take_all(&mut self, marks: &[Mark])
-        ensures holds { (i s : ℕ) → hold_of self.new i s ≡ (if has_slot i s marks.now then None else hold_of self.old i s) }
+        ensures holds { (i s : ℕ) → hold_of self.new i s
+            ≡ (if has_slot i s marks.now then None else hold_of self.old i s) }
         ensures room { room_of self.old ≤ room_of self.new }
     {
         for mark in marks {
@@ -159,7 +158,7 @@ impl SlotIndex {
     }
 
     fn end_empty(&mut self, id: u64, slot: u32)
-        ensures holds { (i s : ℕ) → hold_of self.new i s ≡ hold_of self.old i s }
+        ensures holds { SameValues (hold_of self.old) (hold_of self.new) }
         ensures room { room_of self.old ≤ room_of self.new }
     {
         if self.is_empty_block(id, slot) {
@@ -168,7 +167,7 @@ impl SlotIndex {
     }
 
     fn is_empty_block(&self, id: u64, slot: u32) -> bool
-        ensures { result ≡ true → (at : ℕ) → cell (get is_same_slot self.now.blocks (id / 16, slot)) at ≡ None }
+        ensures { result ≡ true → (at : ℕ) → cell (block_at self.now id slot) at ≡ None }
     {
         match self.blocks.get(&(id / BLOCK, slot)) {
             None => false,

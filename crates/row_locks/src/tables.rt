@@ -1,26 +1,24 @@
 // What is done to the marks of one session, and to the indexes of all.
 ghost use Rattle.std.specs.Prelude.{◌≡◌, ◌≢◌, ◌<◌, ◌≤◌, ◌+◌, ◌^◌, ℕ, List as Sequence, map, length, slice_set, slice_index_or, Some, None, OnOk, OnErr, IfSome, IfNone, IsTrue, false, is_some, option_copied};
 ghost use Rattle.std.specs.Option.{option_map};
-ghost use Rattle.row_locks.specs.Marks.{kept_beside};
-ghost use Rattle.row_locks.specs.Entries.{SessionEntries, no_entries, present, entry_at, entries_of, all_spare, with_mark, with_entry, with_rank, with_room, unranked};
+ghost use Rattle.row_locks.specs.Changes.{SameValues};
+ghost use Rattle.row_locks.specs.Entries.{no_entries, present, table_of, entries_of, all_spare, tables_with_mark, tables_with_entry, tables_with_room, tables_keeping, unranked, IsAligned, SameTables};
 ghost use Rattle.row_locks.specs.Slots.{hold_of, room_of, IsSlotIndex};
-ghost use Rattle.row_locks.specs.Groups.{class_of, key_of, group_at, rank_at, is_in_group_at, has_names_at, cell_of, place_of, count_of, hold_in, group_room, DiffersAt, HasAlone, HasInGroup, IsUnheld, IsGroupIndexOf, AreRanked};
-ghost use Rattle.row_locks.specs.declared.classes.Place.{Place};
-ghost use Rattle.row_locks.specs.declared.mark.Group.{Group};
+ghost use Rattle.row_locks.specs.Groups.{group_meant, key_of, group_at, rank_at, is_in_group_at, has_names_at, cell_of, hold_in, group_room, next_rank, tables_with_rank, FirstHasNames, HasAlone, HasInGroup, IsUnheld, IsGroupIndexOf, IsIndexWith, AreRanked, AreUnranked, SameRankedBut, SameRankedOutside};
 
 use crate::classes::Place;
-use crate::groups::{GroupIndex, GroupKey, group_key, key_of_group};
-use crate::mark::{Group, Mark};
+use crate::groups::{GroupIndex, GroupKey, GroupRef, group_key, key_of_group};
 use crate::session_table::SessionTable;
 use crate::slots::{Hold, SlotIndex};
 use payload_records::{List, Name};
+use slot_marks::{Group, Mark};
 use std::alloc::{AllocError, Global};
 
 /// Makes tables up to the session's.
-fn reach(tables: &mut Vec<SessionTable>, session: u32, alloc: Global) -> Result<(), AllocError>
-    ensures same { (s : ℕ) → slice_index_or tables.new.items s no_entries ≡ slice_index_or tables.old.items s no_entries }
+fn extend_to(tables: &mut Vec<SessionTable>, session: u32, alloc: Global) -> Result<(), AllocError>
+    ensures same { SameTables tables.old.items tables.new.items }
     ensures spare { all_spare tables.new.items ≡ all_spare tables.old.items }
-    ensures reached { OnOk result (session < length tables.new.items) }
+    ensures there { OnOk result (session < length tables.new.items) }
     ensures bound { length tables.old.items ≤ 2 ^ 32 → length tables.new.items ≤ 2 ^ 32 }
 {
     while tables.len() <= session as usize {
@@ -38,26 +36,26 @@ pub(crate) fn prepare(
     marks: usize,
     alloc: Global,
 ) -> Result<(), AllocError>
-    ensures same { (s : ℕ) → slice_index_or tables.new.items s no_entries ≡ slice_index_or tables.old.items s no_entries }
+    ensures same { SameTables tables.old.items tables.new.items }
     ensures spare { all_spare tables.new.items ≡ all_spare tables.old.items }
-    ensures reached { OnOk result (session < length tables.new.items) }
+    ensures there { OnOk result (session < length tables.new.items) }
     ensures bound { length tables.old.items ≤ 2 ^ 32 → length tables.new.items ≤ 2 ^ 32 }
-    ensures holds { (id slot : ℕ) → hold_of slots.new id slot ≡ hold_of slots.old id slot }
-    ensures cells { (names rank : ℕ) → cell_of groups.new.classes names rank ≡ cell_of groups.old.classes names rank }
-    ensures group_holds { (number names : ℕ) → hold_in groups.new.holds number names ≡ hold_in groups.old.holds number names }
+    ensures holds { SameValues (hold_of slots.old) (hold_of slots.new) }
+    ensures cells { SameValues (cell_of groups.old.classes) (cell_of groups.new.classes) }
+    ensures group_holds { SameValues (hold_in groups.old.holds) (hold_in groups.new.holds) }
     ensures ok { OnOk result (marks ≤ room_of slots.new) }
     ensures ok_groups { OnOk result (marks ≤ group_room groups.new) }
     ensures room { room_of slots.old ≤ room_of slots.new }
     ensures group_room { group_room groups.old ≤ group_room groups.new }
 {
-    reach(tables, session, alloc)?;
+    extend_to(tables, session, alloc)?;
     slots.reserve(marks)?;
     groups.reserve(marks)
 }
 
 /// For how many more marks of the session there is room.
 pub(crate) fn spare_at(tables: &Vec<SessionTable>, at: usize) -> usize
-    ensures { result ≡ (slice_index_or tables.now.items at no_entries).spare }
+    ensures { result ≡ (table_of tables.now.items at).spare }
 {
     match tables.get(at) {
         None => 0,
@@ -68,7 +66,7 @@ pub(crate) fn spare_at(tables: &Vec<SessionTable>, at: usize) -> usize
 /// Makes room for one more mark of the session.
 pub(crate) fn reserve_at(tables: &mut Vec<SessionTable>, at: usize) -> Result<(), AllocError>
     requires { at < length tables.old.items }
-    ensures ok { OnOk result (tables.new.items ≡ slice_set tables.old.items at (with_room (slice_index_or tables.old.items at no_entries))) }
+    ensures ok { OnOk result (tables.new.items ≡ tables_with_room tables.old.items at) }
     ensures err { OnErr result (tables.new.items ≡ tables.old.items) }
 {
     tables[at].reserve()
@@ -78,21 +76,19 @@ pub(crate) fn reserve_at(tables: &mut Vec<SessionTable>, at: usize) -> Result<()
 pub(crate) fn find_holder(
     tables: &Vec<SessionTable>,
     groups: &GroupIndex,
-    queue: &Name,
-    number: u64,
-    consumer: Option<&Name>,
+    group: GroupRef<'_>,
 ) -> Option<u32>
     requires grouped { IsGroupIndexOf tables.now.items groups.now }
     requires ranked { AreRanked tables.now.items }
-    ensures some { IfSome result (HasInGroup tables.now.items (record { queue = queue.now; number = number; consumer = option_copied consumer.entry })) }
-    ensures none { IfNone result (IsUnheld tables.now.items (record { queue = queue.now; number = number; consumer = option_copied consumer.entry })) }
+    ensures some { IfSome result (HasInGroup tables.now.items (group_meant group.entry)) }
+    ensures none { IfNone result (IsUnheld tables.now.items (group_meant group.entry)) }
 {
-    let key = group_key(queue, number, consumer);
-    let witness = groups.witness(key.names)?;
-    if witness.mixed {
-        return find_in_class(tables, groups, queue, number, consumer);
+    let key = group_key(group);
+    let first_mark = groups.first_mark(key.names)?;
+    if first_mark.mixed {
+        return find_in_class(tables, groups, group);
     }
-    if !has_names_at(tables, witness.place, queue, consumer) {
+    if !has_names_at(tables, first_mark.place, group.queue, group.consumer) {
         return None;
     }
     groups.session_of(key)
@@ -102,19 +98,17 @@ pub(crate) fn find_holder(
 fn find_in_class(
     tables: &Vec<SessionTable>,
     groups: &GroupIndex,
-    queue: &Name,
-    number: u64,
-    consumer: Option<&Name>,
+    group: GroupRef<'_>,
 ) -> Option<u32>
     requires grouped { IsGroupIndexOf tables.now.items groups.now }
     requires ranked { AreRanked tables.now.items }
-    ensures some { IfSome result (HasInGroup tables.now.items (record { queue = queue.now; number = number; consumer = option_copied consumer.entry })) }
-    ensures none { IfNone result (IsUnheld tables.now.items (record { queue = queue.now; number = number; consumer = option_copied consumer.entry })) }
+    ensures some { IfSome result (HasInGroup tables.now.items (group_meant group.entry)) }
+    ensures none { IfNone result (IsUnheld tables.now.items (group_meant group.entry)) }
 {
-    let key = group_key(queue, number, consumer);
+    let key = group_key(group);
     for rank in 0..groups.len() {
         let place = groups.find(key.names, rank)?;
-        if is_in_group_at(tables, place, queue, number, consumer) {
+        if is_in_group_at(tables, place, group) {
             return Some(place.session);
         }
     }
@@ -129,14 +123,15 @@ pub(crate) fn put_at(
     session: u32,
     mark: Mark,
 )
-    requires spare { 0 < (slice_index_or tables.old.items session no_entries).spare }
+    requires spare { 0 < (table_of tables.old.items session).spare }
     requires room { 0 < room_of slots.old }
     requires group_room { 0 < group_room groups.old }
     requires index { IsSlotIndex tables.old.items (hold_of slots.old) }
     requires grouped { IsGroupIndexOf tables.old.items groups.old }
     requires free { hold_of slots.old mark.id mark.slot ≡ None }
     requires alone { HasAlone tables.old.items session mark.group }
-    ensures put { let rank = option_map (λ group. count_of groups.old.classes (class_of group)) mark.group in tables.new.items ≡ slice_set tables.old.items session (with_mark (slice_index_or tables.old.items session no_entries) mark rank) }
+    ensures put { let rank = next_rank groups.old mark.group in
+        tables.new.items ≡ tables_with_mark tables.old.items session mark rank }
     ensures index { IsSlotIndex tables.new.items (hold_of slots.new) }
     ensures grouped { IsGroupIndexOf tables.new.items groups.new }
     ensures ranked { AreRanked tables.old.items → AreRanked tables.new.items }
@@ -165,8 +160,8 @@ fn enter_group(
     requires grouped { IsGroupIndexOf tables.now.items groups.old }
     requires vacant { group_at tables.now.items place ≡ None }
     requires alone { HasAlone tables.now.items place.session mark.now.group }
-    ensures rank { result ≡ option_map (λ group. count_of groups.old.classes (class_of group)) mark.now.group }
-    ensures grouped { (new : Sequence SessionEntries) → DiffersAt (group_at tables.now.items) (group_at new) place mark.now.group → DiffersAt (rank_at tables.now.items) (rank_at new) place result → IsGroupIndexOf new groups.new }
+    ensures rank { result ≡ next_rank groups.old mark.now.group }
+    ensures grouped { IsIndexWith tables.now.items groups.new place mark.now.group result }
     ensures group_room { group_room groups.old ≤ group_room groups.new + 1 }
 {
     let Some(group) = &mark.group else {
@@ -184,11 +179,11 @@ fn differs_from_class(
     names: u64,
     group: &Group,
 ) -> bool
-    ensures { result ≡ false → (p : Place) → place_of groups.now.classes names 0 ≡ Some p → IsTrue (has_names_at tables.now.items group.now.queue group.now.consumer p) }
+    ensures { result ≡ false → FirstHasNames tables.now.items groups.now.classes names group.now }
 {
-    match groups.witness(names) {
+    match groups.first_mark(names) {
         None => false,
-        Some(witness) => !has_group_names_at(tables, witness.place, group),
+        Some(first_mark) => !has_group_names_at(tables, first_mark.place, group),
     }
 }
 
@@ -201,7 +196,7 @@ pub(crate) fn keep_at(
 )
     requires held { hold_of slots.old mark.now.id mark.now.slot ≡ Some hold }
     requires index { IsSlotIndex tables.old.items (hold_of slots.old) }
-    ensures kept { let old = slice_index_or tables.old.items hold.session no_entries in tables.new.items ≡ slice_set tables.old.items hold.session (with_entry old hold.at (option_map (kept_beside mark.now) (entry_at old.entries hold.at))) }
+    ensures kept { tables.new.items ≡ tables_keeping tables.old.items hold.session hold.at mark.now }
     ensures index { IsSlotIndex tables.new.items (hold_of slots.new) }
     ensures room { room_of slots.old ≤ room_of slots.new }
 {
@@ -224,7 +219,7 @@ pub(crate) fn release_at(
 )
     requires held { hold_of slots.old id slot ≡ Some hold }
     requires index { IsSlotIndex tables.old.items (hold_of slots.old) }
-    ensures released { tables.new.items ≡ slice_set tables.old.items hold.session (with_entry (slice_index_or tables.old.items hold.session no_entries) hold.at None) }
+    ensures released { tables.new.items ≡ tables_with_entry tables.old.items hold.session hold.at None }
     ensures index { IsSlotIndex tables.new.items (hold_of slots.new) }
     ensures room { room_of slots.old ≤ room_of slots.new }
 {
@@ -258,7 +253,7 @@ pub(crate) fn leave_group(tables: &mut Vec<SessionTable>, groups: &mut GroupInde
     ensures same { map unranked tables.new.items ≡ map unranked tables.old.items }
     ensures grouped { IsGroupIndexOf tables.new.items groups.new }
     ensures out { rank_at tables.new.items place ≡ None }
-    ensures others { (other : Place) → other ≢ place → is_some (rank_at tables.new.items other) ≡ is_some (rank_at tables.old.items other) }
+    ensures others { SameRankedBut tables.old.items tables.new.items place }
     ensures room { group_room groups.old ≤ group_room groups.new }
 {
     let Some(rank) = take_rank_at(tables, place) else {
@@ -278,8 +273,8 @@ pub(crate) fn leave_groups(tables: &mut Vec<SessionTable>, groups: &mut GroupInd
     requires grouped { IsGroupIndexOf tables.old.items groups.old }
     ensures same { map unranked tables.new.items ≡ map unranked tables.old.items }
     ensures grouped { IsGroupIndexOf tables.new.items groups.new }
-    ensures out { (at : ℕ) → at < length (entries_of tables.old.items session) → rank_at tables.new.items (record { session = session; at = at }) ≡ None }
-    ensures others { (other : Place) → other.session ≢ session → is_some (rank_at tables.new.items other) ≡ is_some (rank_at tables.old.items other) }
+    ensures out { AreUnranked tables.new.items session (length (entries_of tables.old.items session)) }
+    ensures others { SameRankedOutside tables.old.items tables.new.items session }
     ensures room { group_room groups.old ≤ group_room groups.new }
 {
     for at in 0..len_at(tables, session as usize) {
@@ -289,9 +284,9 @@ pub(crate) fn leave_groups(tables: &mut Vec<SessionTable>, groups: &mut GroupInd
 
 fn put_last_at(tables: &mut Vec<SessionTable>, at: usize, mark: Mark, rank: Option<usize>)
     requires there { at < length tables.old.items }
-    requires spare { 0 < (slice_index_or tables.old.items at no_entries).spare }
-    ensures put { tables.new.items ≡ slice_set tables.old.items at (with_mark (slice_index_or tables.old.items at no_entries) mark rank) }
-    ensures whole { let old = slice_index_or tables.old.items at no_entries in length old.ranks ≡ length old.entries }
+    requires spare { 0 < (table_of tables.old.items at).spare }
+    ensures put { tables.new.items ≡ tables_with_mark tables.old.items at mark rank }
+    ensures whole { IsAligned (table_of tables.old.items at) }
 {
     tables[at].put(mark, rank);
 }
@@ -299,7 +294,7 @@ fn put_last_at(tables: &mut Vec<SessionTable>, at: usize, mark: Mark, rank: Opti
 fn keep_entry_at(tables: &mut Vec<SessionTable>, at: usize, place: usize, mark: &Mark)
     requires there { at < length tables.old.items }
     requires within { place < length (entries_of tables.old.items at) }
-    ensures { let old = slice_index_or tables.old.items at no_entries in tables.new.items ≡ slice_set tables.old.items at (with_entry old place (option_map (kept_beside mark.now) (entry_at old.entries place))) }
+    ensures { tables.new.items ≡ tables_keeping tables.old.items at place mark.now }
 {
     tables[at].keep_at(place, mark);
 }
@@ -307,7 +302,7 @@ fn keep_entry_at(tables: &mut Vec<SessionTable>, at: usize, place: usize, mark: 
 fn release_entry_at(tables: &mut Vec<SessionTable>, at: usize, place: usize)
     requires there { at < length tables.old.items }
     requires within { place < length (entries_of tables.old.items at) }
-    ensures { tables.new.items ≡ slice_set tables.old.items at (with_entry (slice_index_or tables.old.items at no_entries) place None) }
+    ensures { tables.new.items ≡ tables_with_entry tables.old.items at place None }
 {
     tables[at].release_at(place);
 }
@@ -334,18 +329,12 @@ fn key_of_place(tables: &Vec<SessionTable>, place: Place) -> Option<GroupKey>
     tables[place.session as usize].key_at(place.at as usize)
 }
 
-fn is_in_group_at(
-    tables: &Vec<SessionTable>,
-    place: Place,
-    queue: &Name,
-    number: u64,
-    consumer: Option<&Name>,
-) -> bool
-    ensures { result ≡ is_in_group_at tables.now.items (record { queue = queue.now; number = number; consumer = option_copied consumer.entry }) place }
+fn is_in_group_at(tables: &Vec<SessionTable>, place: Place, group: GroupRef<'_>) -> bool
+    ensures { result ≡ is_in_group_at tables.now.items (group_meant group.entry) place }
 {
     match tables.get(place.session as usize) {
         None => false,
-        Some(table) => table.is_in_group_at(place.at as usize, queue, number, consumer),
+        Some(table) => table.is_in_group_at(place.at as usize, group),
     }
 }
 
@@ -373,8 +362,8 @@ fn take_rank_at(tables: &mut Vec<SessionTable>, place: Place) -> Option<usize>
     requires there { place.session < length tables.old.items }
     requires within { place.at < length (entries_of tables.old.items place.session) }
     ensures rank { result ≡ rank_at tables.old.items place }
-    ensures rest { tables.new.items ≡ slice_set tables.old.items place.session (with_rank (slice_index_or tables.old.items place.session no_entries) place.at None) }
-    ensures whole { let old = slice_index_or tables.old.items place.session no_entries in length old.ranks ≡ length old.entries }
+    ensures rest { tables.new.items ≡ tables_with_rank tables.old.items place None }
+    ensures whole { IsAligned (table_of tables.old.items place.session) }
 {
     tables[place.session as usize].take_rank(place.at as usize)
 }
@@ -382,8 +371,8 @@ fn take_rank_at(tables: &mut Vec<SessionTable>, place: Place) -> Option<usize>
 fn set_rank_at(tables: &mut Vec<SessionTable>, place: Place, rank: usize)
     requires there { place.session < length tables.old.items }
     requires within { place.at < length (entries_of tables.old.items place.session) }
-    ensures rest { tables.new.items ≡ slice_set tables.old.items place.session (with_rank (slice_index_or tables.old.items place.session no_entries) place.at (Some rank)) }
-    ensures whole { let old = slice_index_or tables.old.items place.session no_entries in length old.ranks ≡ length old.entries }
+    ensures rest { tables.new.items ≡ tables_with_rank tables.old.items place (Some rank) }
+    ensures whole { IsAligned (table_of tables.old.items place.session) }
 {
     tables[place.session as usize].set_rank(place.at as usize, rank);
 }

@@ -1,9 +1,10 @@
 -- What atoms, products and sums come to.
 use Rattle.std.specs.Prelude.{ℕ, ◌^◌, ◌==◌, nat_lt, ℤ, pos, negsuc, ◌+ℤ◌, ◌-ℤ◌, ◌*ℤ◌, List, [], ◌∷◌, length, Bool, Option, option_and_then, slice_get, if◌then◌else◌}
-use Rattle.std.specs.List.{fold, position}
+use Rattle.std.specs.List.{fold, position, find}
 use Rattle.std.specs.Option.{option_map_or}
 use Rattle.std.specs.Str.{bytes_eq}
 use Rattle.payload_records.specs.declared.kind.Field.{Field}
+use Rattle.payload_records.specs.declared.props.Prop.{Prop}
 use Rattle.payload_records.specs.declared.record.Datum.{Datum}
 use Rattle.payload_records.specs.declared.record.Datum.TheVariants as data_of
 use Rattle.rule_conditions.specs.declared.condition.Atom.{Atom}
@@ -38,6 +39,14 @@ place_of fields name = position (λ f. bytes_eq f.name name) fields
 abbrev pub cell_named : List Field → List Datum → List ℕ → Datum
 cell_named fields cells name = option_map_or cell_or_null (option_and_then (slice_get cells) (place_of fields name)) data_of.Null
 
+-- the property of that name
+abbrev pub prop_of : List Prop → List ℕ → Option Prop
+prop_of props name = find (λ p. bytes_eq p.name name) props
+
+-- what a message has as the property of that name: null where it has none
+abbrev pub prop_named : List Prop → List ℕ → Datum
+prop_named props name = option_map_or (λ p. cell_or_null p.value) (prop_of props name) data_of.Null
+
 abbrev pub atom_value : List Field → Facts → Atom → Datum
 atom_value fields facts (atoms.Number n) = data_of.Num n
 atom_value fields facts (atoms.Text text) = text_or_null text
@@ -45,8 +54,10 @@ atom_value fields facts atoms.Null = data_of.Null
 atom_value fields facts atoms.Priority = data_of.Num facts.priority
 atom_value fields facts atoms.Corr = option_map_or text_or_null facts.corr data_of.Null
 atom_value fields facts (atoms.Cell name) = cell_named fields facts.cells.cells name
+atom_value fields facts (atoms.Prop name) = prop_named facts.props name
 
--- a step of a sum or a product: null where an operand is no number, or the result leaves 64 bits
+-- a step of a sum or a product: null where an operand is no number (a null, or a property that is a text), or the result
+-- leaves 64 bits
 abbrev pub times : Datum → Datum → Datum
 times (data_of.Num x) (data_of.Num y) = num_or_null (x *ℤ y)
 times left right = data_of.Null

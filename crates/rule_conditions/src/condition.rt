@@ -59,6 +59,8 @@ pub enum Atom {
     Corr,
     /// A field of the payload.
     Cell(Name),
+    /// A property.
+    Prop(Name),
 }
 
 /// How two sums are compared.
@@ -87,6 +89,7 @@ impl Copied for Atom {
             Atom::Priority => Ok(Atom::Priority),
             Atom::Corr => Ok(Atom::Corr),
             Atom::Cell(name) => Ok(Atom::Cell(name.copied()?)),
+            Atom::Prop(name) => Ok(Atom::Prop(name.copied()?)),
         }
     }
 }

@@ -1,5 +1,5 @@
 // What conditions are judged on.
-use payload_records::{Copied, Record, Text};
+use payload_records::{Copied, List, Prop, Record, Text};
 use std::alloc::AllocError;
 
 /// What a condition may ask of a message.
@@ -11,6 +11,8 @@ pub struct Facts {
     pub corr: Option<Text>,
     /// The payload.
     pub cells: Record,
+    /// The properties, in byte order of their distinct names.
+    pub props: List<Prop>,
 }
 
 impl Copied for Facts {
@@ -19,6 +21,7 @@ impl Copied for Facts {
             priority: self.priority,
             corr: Copied::copied(&self.corr)?,
             cells: self.cells.copied()?,
+            props: self.props.copied()?,
         })
     }
 }

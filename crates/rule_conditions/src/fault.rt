@@ -41,7 +41,7 @@ fn kind_of(fields: &List<Field>, atom: &Atom) -> Option<Kind>
     match atom {
         Atom::Number(_) | Atom::Priority => Some(Kind::Num),
         Atom::Text(_) | Atom::Corr => Some(Kind::Text),
-        Atom::Null => None,
+        Atom::Null | Atom::Prop(_) => None,
         Atom::Cell(name) => match field_named(fields, name) {
             Some(field) => Some(field.kind),
             None => None,
@@ -189,7 +189,8 @@ fn found_in<'a>(fields: &List<Field>, condition: &'a Cond) -> Option<Found<'a>>
 /// answer alone.
 pub fn check(condition: &Cond, kind: &RecordType) -> Result<(), CondFault>
     ensures right { OnOk result (cond_fault kind.now condition.now ≡ None) }
-    ensures fault { IfErr result (λ e. e ≢ CondFault.Memory → cond_fault kind.now condition.now ≡ Some e) }
+    ensures fault { IfErr result (λ e. e ≢ CondFault.Memory
+        → cond_fault kind.now condition.now ≡ Some e) }
 {
     match found_in(kind.fields(), condition) {
         None => Ok(()),

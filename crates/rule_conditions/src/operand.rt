@@ -1,11 +1,11 @@
 // What atoms, products and sums come to.
 ghost use Rattle.std.specs.Prelude.{◌≡◌, IfNone, IfSome, slice_get, option_copied, Some};
 ghost use Rattle.std.specs.Str.{bytes_eq};
-ghost use Rattle.rule_conditions.specs.Values.{num_or_null, text_or_null, cell_or_null, place_of, cell_named, atom_value, times, plus, minus, product_value, first_term, term_added, sum_value, terms_value};
+ghost use Rattle.rule_conditions.specs.Values.{num_or_null, text_or_null, cell_or_null, place_of, cell_named, prop_of, prop_named, atom_value, times, plus, minus, product_value, first_term, term_added, sum_value, terms_value};
 ghost use Rattle.rule_conditions.specs.Operands.{seen};
 
 use crate::{Atom, Facts, Product, Sum, Term};
-use payload_records::{Datum, Field, List};
+use payload_records::{Datum, Field, List, Prop};
 
 /// What a part of a condition comes to.
 #[derive(Clone, Copy)]
@@ -66,6 +66,21 @@ fn cell_named<'a>(fields: &List<Field>, cells: &'a List<Datum>, name: &str) -> O
     }
 }
 
+fn prop_of<'a>(props: &'a List<Prop>, name: &str) -> Option<&'a Prop>
+    ensures { option_copied result ≡ prop_of props.now name.now }
+{
+    props.iter().find(|prop| prop.name.as_str() == name)
+}
+
+fn prop_named<'a>(props: &'a List<Prop>, name: &str) -> Operand<'a>
+    ensures { seen result ≡ prop_named props.now name.now }
+{
+    match prop_of(props, name) {
+        Some(prop) => of_cell(&prop.value),
+        None => Operand::Null,
+    }
+}
+
 fn of_atom<'a>(fields: &List<Field>, facts: &'a Facts, atom: &'a Atom) -> Operand<'a>
     ensures { seen result ≡ atom_value fields.now facts.now atom.now }
 {
@@ -79,6 +94,7 @@ fn of_atom<'a>(fields: &List<Field>, facts: &'a Facts, atom: &'a Atom) -> Operan
             None => Operand::Null,
         },
         Atom::Cell(name) => cell_named(fields, &facts.cells.cells, name.as_str()),
+        Atom::Prop(name) => prop_named(&facts.props, name.as_str()),
     }
 }
 

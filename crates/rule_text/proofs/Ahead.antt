@@ -7,7 +7,8 @@ use Rattle.rule_conditions.specs.declared.condition.Cmp.{Cmp}
 use Rattle.rule_conditions.specs.declared.condition.Cmp.TheVariants as cmps
 use Rattle.rule_text.proofs.Choice.{chosen}
 use Rattle.rule_text.proofs.Choosing.{yes_cond, no_cond}
-use Rattle.rule_text.specs.Lexing.{limit, signed, signed_at, digits_at, unsigned_at, number_at, number_token, content_at, has_room, quoted_at, as_token, comparison_at, comparison_token, behind_less, behind_greater, behind_bang, is_comparison_byte, word_at, word_split, ended_word, found_word, word_token, begins_any, symbol, symbol_or, other_at, token_at}
+use Rattle.rule_conditions.specs.Lexing.{limit, signed, signed_at, digits_at, unsigned_at, number_at, number_token, content_at, has_room, quoted_at, as_token, comparison_at, comparison_token, behind_less, behind_greater, behind_bang, is_comparison_byte, symbol_or}
+use Rattle.rule_text.specs.Lexing.{word_at, word_split, ended_word, found_word, word_token, begins_any, symbol, other_at, token_at}
 use Rattle.rule_text.specs.Outline.{takes_text, takes_atom, takes_test}
 use Rattle.rule_text.specs.declared.outline.Outline.{Outline}
 use Rattle.rule_text.specs.declared.tokens.Word.{Word}

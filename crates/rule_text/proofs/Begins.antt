@@ -26,9 +26,11 @@ use Rattle.rule_text.proofs.Running.{Runs, runs_append, seen}
 use Rattle.rule_text.proofs.Sound.{Good, good_start, good_step, good_finish, spaced}
 use Rattle.rule_text.proofs.Taking.{ends_so}
 use Rattle.rule_text.proofs.Tokenwise.{token_taken}
-use Rattle.rule_text.proofs.WordRead.{IsWordText, fixed_text, field_text, begins_bytes}
-use Rattle.rule_text.specs.Lexing.{behind_space, token_at}
-use Rattle.rule_text.specs.Outline.{group, closed, read_unit, wrapped, whole_unit, no_partial, with_atom, step, finish, start}
+use Rattle.rule_text.proofs.WordRead.{IsWordText, fixed_text, field_text, prop_text, begins_bytes}
+use Rattle.rule_conditions.specs.Lexing.{behind_space}
+use Rattle.rule_text.specs.Lexing.{token_at}
+use Rattle.rule_conditions.specs.Outline.{group}
+use Rattle.rule_text.specs.Outline.{closed, read_unit, wrapped, whole_unit, no_partial, with_atom, step, finish, start}
 use Rattle.rule_text.specs.Reading.{Reads, Ends, Short, Steps, Fails, FaultTells}
 use Rattle.rule_text.specs.declared.fault.ReadFault.TheVariants as faults
 use Rattle.rule_text.specs.declared.outline.Outline.{Outline}
@@ -248,6 +250,7 @@ atom_utf8 atoms.Null word s = word_utf8 words.Null word (fixed_text words.Null w
 atom_utf8 atoms.Priority word s = word_utf8 words.Priority word (fixed_text words.Priority word refl s)
 atom_utf8 atoms.Corr word s = word_utf8 words.Corr word (fixed_text words.Corr word refl s)
 atom_utf8 (atoms.Cell name) word s = word_utf8 words.Cell word (field_text name word s)
+atom_utf8 (atoms.Prop name) word s = word_utf8 words.Prop word (prop_text name word s)
 
 spelled_utf8 : (token : Token) (word : List ℕ) → Spells token word → IsUtf8 word
 spelled_utf8 OrWord word s = word_utf8 words.Or word (fixed_text words.Or word refl s)

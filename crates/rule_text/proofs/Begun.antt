@@ -22,9 +22,10 @@ use Rattle.rule_text.proofs.Doubling.{doubled_append, doubled_other, quoted_byte
 use Rattle.rule_text.proofs.NumberRead.{begins_number}
 use Rattle.rule_text.proofs.Room.{goes_on, FitsFrom, fits_more, room_fits, content_within}
 use Rattle.rule_text.proofs.Steppable.{word_some, number_some, text_step_some, comparison_step_some}
-use Rattle.rule_text.proofs.Taking.{split_same, whole_word}
+use Rattle.rule_text.proofs.Taking.{split_same, whole_word, begins_named, is_whole_named}
 use Rattle.rule_text.proofs.WordRead.{any_witness}
-use Rattle.rule_text.specs.Lexing.{limit, signed, signed_at, digits_at, unsigned_at, number_at, content_at, has_room, as_token, comparison_at, comparison_token, behind_bang, is_comparison_byte, word_at, word_split, found_word, word_token, begins_any, begins_word, is_whole, is_begun, is_cell, is_field_name, spelled, symbol, symbol_or, token_at}
+use Rattle.rule_conditions.specs.Lexing.{limit, signed, signed_at, digits_at, unsigned_at, number_at, content_at, has_room, as_token, comparison_at, comparison_token, behind_bang, is_comparison_byte, is_begun, is_field_name, symbol_or}
+use Rattle.rule_text.specs.Lexing.{word_at, word_split, found_word, word_token, begins_any, begins_word, is_whole, is_named, spelled, symbol, token_at}
 use Rattle.rule_text.specs.Outline.{takes_text, takes_atom, takes_test, takes_word, step}
 use Rattle.rule_text.specs.declared.outline.Outline.{Outline}
 use Rattle.rule_text.specs.declared.tokens.Word.{Word}
@@ -271,6 +272,7 @@ are_small words.Null = refl
 are_small words.Priority = refl
 are_small words.Corr = refl
 are_small words.Cell = refl
+are_small words.Prop = refl
 
 begun_itself : (letters : List ℕ) → list_all (λ l. to_ascii_lowercase l == l) letters ≡ true → is_begun letters letters ≡ true
 begun_itself [] h = refl
@@ -286,37 +288,34 @@ begun_rest (l ∷ letters) (b ∷ head) small h =
     let len : length (head ++ r.0) ≡ length letters = r.2 in
     (r.0, and_from _ _ both.0 r.1, omega arith)
 
-fixed_begins : (w : Word) (head : List ℕ) → is_cell w ≡ false → begins_word w head ≡ is_begun (spelled w) head
+fixed_begins : (w : Word) (head : List ℕ) → is_named w ≡ false → begins_word w head ≡ is_begun (spelled w) head
 fixed_begins w head e =
     let len = length (spelled w) in
-    let test : (is_cell w && nat_lt len (length head)) ≡ false = rw e refl in
-    no_cond (is_cell w && nat_lt len (length head)) (is_begun (spelled w) (take len head) && is_field_name (drop len head)) (is_begun (spelled w) head) test
+    let test : (is_named w && nat_lt len (length head)) ≡ false = rw e refl in
+    no_cond (is_named w && nat_lt len (length head)) (is_begun (spelled w) (take len head) && is_field_name (drop len head)) (is_begun (spelled w) head) test
 
-fixed_ends : (w : Word) (head : List ℕ) → is_cell w ≡ false → begins_word w head ≡ true → (more : List ℕ) × (is_whole w (head ++ more) ≡ true)
+fixed_ends : (w : Word) (head : List ℕ) → is_named w ≡ false → begins_word w head ≡ true → (more : List ℕ) × (is_whole w (head ++ more) ≡ true)
 fixed_ends w head e h =
     let r = begun_rest (spelled w) head (are_small w) (sym (fixed_begins w head e) ∙ h) in
     let whole = head ++ r.0 in
-    (r.0, and_from _ _ (no_cond (is_cell w) (nat_lt (length (spelled w)) (length whole)) (length whole == length (spelled w)) e ∙ eq-eqb (length whole) (length (spelled w)) r.2) (fixed_begins w whole e ∙ r.1))
+    (r.0, and_from _ _ (no_cond (is_named w) (nat_lt (length (spelled w)) (length whole)) (length whole == length (spelled w)) e ∙ eq-eqb (length whole) (length (spelled w)) r.2) (fixed_begins w whole e ∙ r.1))
 
-abbrev dotted : List ℕ
-dotted = spelled words.Cell
-
-cell_ends : (head : List ℕ) → begins_word words.Cell head ≡ true → (more : List ℕ) × (is_whole words.Cell (head ++ more) ≡ true)
-cell_ends head h =
+named_ends : (letters head : List ℕ) → length letters ≡ 14 → list_all (λ l. to_ascii_lowercase l == l) letters ≡ true → begins_named letters head ≡ true → (more : List ℕ) × (is_whole_named letters (head ++ more) ≡ true)
+named_ends letters head fourteen small h =
     elim (cases_Bool (nat_lt 14 (length head))) [
-      | inl a ↦ ([], subst (λ (x : List ℕ). is_whole words.Cell x ≡ true) (sym (append-nil head)) (and_from _ _ a h))
+      | inl a ↦ ([], subst (λ (x : List ℕ). is_whole_named letters x ≡ true) (sym (append-nil head)) (and_from _ _ a h))
       | inr a ↦
-          let begun : is_begun dotted head ≡ true = sym (no_cond (nat_lt 14 (length head)) (is_begun dotted (take 14 head) && is_field_name (drop 14 head)) (is_begun dotted head) a) ∙ h in
-          let r = begun_rest dotted head (are_small words.Cell) begun in
+          let begun : is_begun letters head ≡ true = sym (no_cond (nat_lt 14 (length head)) (is_begun letters (take 14 head) && is_field_name (drop 14 head)) (is_begun letters head) a) ∙ h in
+          let r = begun_rest letters head small begun in
           let front = head ++ r.0 in
-          let len : length front ≡ 14 = r.2 in
+          let len : length front ≡ 14 = r.2 ∙ fourteen in
           let whole = front ++ 97 ∷ [] in
           let longer : 14 < length whole = omega (arith, length-append front (97 ∷ [])) in
-          let first : is_begun dotted (take 14 whole) ≡ true = ap (is_begun dotted) (take_at front (97 ∷ []) 14 len) ∙ r.1 in
+          let first : is_begun letters (take 14 whole) ≡ true = ap (is_begun letters) (take_at front (97 ∷ []) 14 len) ∙ r.1 in
           let name : is_field_name (drop 14 whole) ≡ true = ap is_field_name (drop_at front (97 ∷ []) 14 len) in
           let test = lt-ltb 14 (length whole) longer in
-          let begins : begins_word words.Cell whole ≡ true = yes_cond (nat_lt 14 (length whole)) (is_begun dotted (take 14 whole) && is_field_name (drop 14 whole)) (is_begun dotted whole) test ∙ and_from _ _ first name in
-          (r.0 ++ 97 ∷ [], subst (λ (x : List ℕ). is_whole words.Cell x ≡ true) (append_assoc head r.0 (97 ∷ [])) (and_from _ _ test begins))
+          let begins : begins_named letters whole ≡ true = yes_cond (nat_lt 14 (length whole)) (is_begun letters (take 14 whole) && is_field_name (drop 14 whole)) (is_begun letters whole) test ∙ and_from _ _ first name in
+          (r.0 ++ 97 ∷ [], subst (λ (x : List ℕ). is_whole_named letters x ≡ true) (append_assoc head r.0 (97 ∷ [])) (and_from _ _ test begins))
     ]
 
 word_ends : (w : Word) (head : List ℕ) → begins_word w head ≡ true → (more : List ℕ) × (is_whole w (head ++ more) ≡ true)
@@ -328,7 +327,8 @@ word_ends words.Like head h = fixed_ends words.Like head refl h
 word_ends words.Null head h = fixed_ends words.Null head refl h
 word_ends words.Priority head h = fixed_ends words.Priority head refl h
 word_ends words.Corr head h = fixed_ends words.Corr head refl h
-word_ends words.Cell head h = cell_ends head h
+word_ends words.Cell head h = named_ends (spelled words.Cell) head refl (are_small words.Cell) h
+word_ends words.Prop head h = named_ends (spelled words.Prop) head refl (are_small words.Prop) h
 
 split_begins : (s : Outline) (head text : List ℕ) (out : List ℕ × List ℕ) → (head ≡ []) ⊎ (begins_any s head ≡ true) → word_split s head text ≡ out → (out.0 ≡ []) ⊎ (begins_any s out.0 ≡ true)
 split_begins s head [] out h e = subst (λ (x : List ℕ). (x ≡ []) ⊎ (begins_any s x ≡ true)) (ap (λ (o : List ℕ × List ℕ). o.0) e) h

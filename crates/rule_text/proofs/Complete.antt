@@ -17,7 +17,8 @@ use Rattle.rule_text.proofs.Running.{Runs, condition_runs}
 use Rattle.rule_text.proofs.Sound.{mapped}
 use Rattle.rule_text.proofs.TextRead.{begins_quote}
 use Rattle.rule_text.proofs.TokenRead.{begins_second, Clear, first_byte, token_read}
-use Rattle.rule_text.specs.Lexing.{behind_space, token_at}
+use Rattle.rule_conditions.specs.Lexing.{behind_space}
+use Rattle.rule_text.specs.Lexing.{token_at}
 use Rattle.rule_text.specs.Outline.{step, finish, start, with_phase, after_atom, after_comparison}
 use Rattle.rule_text.specs.PrintReadable.{is_readable}
 use Rattle.rule_text.specs.Reading.{Reads, Ends, Short, Steps, Fails}

@@ -5,7 +5,7 @@ use Rattle.std.proofs.lemmas.Bool.{eqb-true}
 use Rattle.std.proofs.lemmas.List.{take_at, drop_at, get_or_at}
 use Rattle.std.proofs.lemmas.Str.{IsUtf8-nil, IsUtf8-take, IsUtf8-drop, IsUtf8-append, IsCharBoundary-before_ascii, IsCharBoundary-after_ascii}
 use Rattle.rule_text.proofs.Choice.{chosen}
-use Rattle.rule_text.specs.Lexing.{content_at, has_room}
+use Rattle.rule_conditions.specs.Lexing.{content_at, has_room}
 
 -- a text may be cut before and behind an ASCII byte
 pub cut_before : (front : List ℕ) (b : ℕ) (rest : List ℕ) → b < 128 → IsUtf8 (front ++ b ∷ rest) → IsUtf8 front

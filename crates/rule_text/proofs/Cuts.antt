@@ -6,7 +6,7 @@ use Rattle.std.proofs.lemmas.Bool.Decides.{nat_tests}
 use Rattle.rule_conditions.specs.Tokens.{is_space}
 use Rattle.rule_text.proofs.Choice.{chosen}
 use Rattle.rule_text.proofs.Content.{cut_behind}
-use Rattle.rule_text.specs.Lexing.{behind_space}
+use Rattle.rule_conditions.specs.Lexing.{behind_space}
 
 pub cut_first : (b : ℕ) (rest : List ℕ) → b < 128 → IsUtf8 (b ∷ rest) → IsUtf8 rest
 cut_first b rest small u = (cut_behind [] b rest small u).1

@@ -5,7 +5,7 @@ use Rattle.std.proofs.lemmas.Bool.{eqb-true, leb-true, lt-ltb, and_from, and_par
 use Rattle.rule_conditions.specs.Tokens.{is_digit, is_word_byte, is_end_of_word, digits_value, SpellsNumber}
 use Rattle.rule_conditions.specs.Values.{fits}
 use Rattle.rule_text.proofs.Choice.{chosen}
-use Rattle.rule_text.specs.Lexing.{limit, signed, digits_at, signed_at, unsigned_at, number_at}
+use Rattle.rule_conditions.specs.Lexing.{limit, signed, digits_at, signed_at, unsigned_at, number_at}
 
 -- the number that more digits make
 abbrev pub more_digits : ℕ → List ℕ → ℕ

@@ -7,7 +7,7 @@ use Rattle.std.proofs.lemmas.Str.{inside_one, encodes-append, encodes-chars}
 use Rattle.rule_conditions.specs.Print.{doubled, quoted}
 use Rattle.rule_text.proofs.Choice.{chosen}
 use Rattle.rule_text.proofs.Content.{pending}
-use Rattle.rule_text.specs.Lexing.{content_at, has_room}
+use Rattle.rule_conditions.specs.Lexing.{content_at, has_room}
 
 pub doubled_append : (xs ys : List ℕ) → doubled (xs ++ ys) ≡ doubled xs ++ doubled ys
 doubled_append [] ys = refl

@@ -5,7 +5,8 @@ use Rattle.rule_conditions.specs.Grammar.{IsSeparated, IsOneOrMore, IsAtom, IsPr
 use Rattle.rule_conditions.specs.declared.condition.Cond.{Cond, roll-Cond}
 use Rattle.rule_conditions.specs.declared.condition.Cond.TheOpen as conds
 use Rattle.rule_conditions.specs.declared.condition.Term.{Term}
-use Rattle.rule_text.specs.Outline.{together, group, closed, read_unit, wrapped}
+use Rattle.rule_conditions.specs.Outline.{together, group}
+use Rattle.rule_text.specs.Outline.{closed, read_unit, wrapped}
 use Rattle.rule_text.specs.declared.outline.Partial.{Partial}
 use Rattle.rule_text.specs.declared.outline.Frame.{Frame}
 use Rattle.rule_text.specs.declared.outline.Frame.TheVariants as frames

@@ -10,7 +10,8 @@ use Rattle.rule_conditions.specs.declared.condition.Cond.TheOpen as conds
 use Rattle.rule_conditions.specs.declared.condition.Sum.{Sum}
 use Rattle.rule_text.proofs.Choice.{chosen}
 use Rattle.rule_text.proofs.Sound.{mapped, bound}
-use Rattle.rule_text.specs.Outline.{group, read_unit, wrapped, whole_unit, with_phase, no_partial, with_atom, together, is_open, null_test, like_test, after_atom, after_is, after_like, after_comparison, after_sign, after_times, after_not_inside, tested_sum, left_sum, after_not, after_open, after_and, after_or, after_close, left, has_room, is_unit, takes_atom, takes_text, takes_sign, takes_test, takes_end, takes_open, takes_close, is_is, is_is_not, is_not_like, is_left}
+use Rattle.rule_conditions.specs.Outline.{group, together}
+use Rattle.rule_text.specs.Outline.{read_unit, wrapped, whole_unit, with_phase, no_partial, with_atom, is_open, null_test, like_test, after_atom, after_is, after_like, after_comparison, after_sign, after_times, after_not_inside, tested_sum, left_sum, after_not, after_open, after_and, after_or, after_close, left, has_room, is_unit, takes_atom, takes_text, takes_sign, takes_test, takes_end, takes_open, takes_close, is_is, is_is_not, is_not_like, is_left}
 use Rattle.rule_text.specs.declared.outline.Outline.{Outline}
 use Rattle.rule_text.specs.declared.outline.Partial.{Partial}
 use Rattle.rule_text.specs.declared.outline.Frame.{Frame}
@@ -28,6 +29,7 @@ is_plain atoms.Null = false
 is_plain atoms.Priority = true
 is_plain atoms.Corr = true
 is_plain (atoms.Cell name) = true
+is_plain (atoms.Prop name) = true
 
 plain_null : (sum : Sum) (negated : Bool) (atom : Atom) (ph : Phase) → is_plain atom ≡ true → null_test sum negated atom ≡ Some ph → ⊥
 plain_null sum negated (atoms.Number z) ph p h = cc
@@ -36,6 +38,7 @@ plain_null sum negated atoms.Null ph p h = cc
 plain_null sum negated atoms.Priority ph p h = cc
 plain_null sum negated atoms.Corr ph p h = cc
 plain_null sum negated (atoms.Cell name) ph p h = cc
+plain_null sum negated (atoms.Prop name) ph p h = cc
 
 plain_like : (sum : Sum) (negated : Bool) (atom : Atom) (ph : Phase) → is_plain atom ≡ true → like_test sum negated atom ≡ Some ph → ⊥
 plain_like sum negated (atoms.Number z) ph p h = cc
@@ -44,6 +47,7 @@ plain_like sum negated atoms.Null ph p h = cc
 plain_like sum negated atoms.Priority ph p h = cc
 plain_like sum negated atoms.Corr ph p h = cc
 plain_like sum negated (atoms.Cell name) ph p h = cc
+plain_like sum negated (atoms.Prop name) ph p h = cc
 
 pub plain_may : (phase ph : Phase) (atom : Atom) → is_plain atom ≡ true → after_atom phase atom ≡ Some ph → takes_atom phase ≡ true
 plain_may phases.Unit ph atom p h = refl

@@ -10,7 +10,8 @@ use Rattle.rule_text.proofs.Choice.{chosen}
 use Rattle.rule_text.proofs.Choosing.{no_cond}
 use Rattle.rule_text.proofs.Complete.{behind_blank, refused_is_none}
 use Rattle.rule_text.proofs.Sound.{spaced}
-use Rattle.rule_text.specs.Lexing.{behind_space, token_at}
+use Rattle.rule_conditions.specs.Lexing.{behind_space}
+use Rattle.rule_text.specs.Lexing.{token_at}
 use Rattle.rule_text.specs.Outline.{start}
 use Rattle.rule_text.specs.Reading.{Reads, Ends, Short, Steps, Fails}
 use Rattle.rule_text.specs.declared.outline.Outline.{Outline}

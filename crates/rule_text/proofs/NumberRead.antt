@@ -7,7 +7,7 @@ use Rattle.rule_conditions.specs.Tokens.{is_digit, is_word_byte, is_end_of_word,
 use Rattle.rule_conditions.specs.Values.{fits}
 use Rattle.rule_text.proofs.Choosing.{yes_cond, no_cond}
 use Rattle.rule_text.proofs.Digits.{more_digits, value_of}
-use Rattle.rule_text.specs.Lexing.{limit, signed, digits_at, signed_at, unsigned_at, number_at}
+use Rattle.rule_conditions.specs.Lexing.{limit, signed, digits_at, signed_at, unsigned_at, number_at}
 
 more_is_more : (n : ℕ) (digits : List ℕ) → n ≤ more_digits n digits
 more_is_more n [] = omega arith

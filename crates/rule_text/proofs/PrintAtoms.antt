@@ -89,6 +89,9 @@ low_all (b ∷ name) h =
 field : (name : List ℕ) → IsTrue (is_name name) → str_to_ascii_lowercase (codes "tab.user_data." ++ name) ≡ codes "tab.user_data." ++ name
 field name h = rw (lower_all name (name_bytes name h)) refl
 
+property : (name : List ℕ) → IsTrue (is_name name) → str_to_ascii_lowercase (codes "tab.user_prop." ++ name) ≡ codes "tab.user_prop." ++ name
+property name h = rw (lower_all name (name_bytes name h)) refl
+
 pub is_spelled-from : (atom : Atom) (word : List ℕ) → SpellsAtom atom word → IsTrue (is_spelled atom)
 is_spelled-from (atoms.Number z) word s = s.within
 is_spelled-from (atoms.Text content) word s =
@@ -97,6 +100,7 @@ is_spelled-from atoms.Null word s = refl
 is_spelled-from atoms.Priority word s = refl
 is_spelled-from atoms.Corr word s = refl
 is_spelled-from (atoms.Cell name) word s = s.is_name
+is_spelled-from (atoms.Prop name) word s = s.is_name
 
 -- its print does
 pub spells_atom : (atom : Atom) → IsTrue (is_spelled atom) → SpellsAtom atom (atom_text atom)
@@ -108,6 +112,7 @@ spells_atom atoms.Null h = refl
 spells_atom atoms.Priority h = refl
 spells_atom atoms.Corr h = refl
 spells_atom (atoms.Cell name) h = record { is_name = h; spelled = field name h }
+spells_atom (atoms.Prop name) h = record { is_name = h; spelled = property name h }
 
 pub atom_utf8 : (atom : Atom) → IsTrue (is_spelled atom) → IsUtf8 (atom_text atom)
 atom_utf8 (atoms.Number z) h = number_utf8 z h
@@ -116,3 +121,4 @@ atom_utf8 atoms.Null h = ascii _ refl
 atom_utf8 atoms.Priority h = ascii _ refl
 atom_utf8 atoms.Corr h = ascii _ refl
 atom_utf8 (atoms.Cell name) h = IsUtf8-append (codes "tab.user_data.") name (ascii _ refl) (ascii name (low_all name (name_bytes name h)))
+atom_utf8 (atoms.Prop name) h = IsUtf8-append (codes "tab.user_prop.") name (ascii _ refl) (ascii name (low_all name (name_bytes name h)))

@@ -6,7 +6,7 @@ use Rattle.std.proofs.lemmas.Bool.{leb-true, ltb-true, ltb-false, and_parts}
 use Rattle.std.proofs.lemmas.Bool.Decides.{nat_tests}
 use Rattle.rule_conditions.specs.declared.TheConstants.{TEXT_LIMIT}
 use Rattle.rule_text.proofs.Choice.{chosen}
-use Rattle.rule_text.specs.Lexing.{content_at, has_room, char_len}
+use Rattle.rule_conditions.specs.Lexing.{content_at, has_room, char_len}
 
 abbrev pub goes_on : ℕ → Bool
 goes_on b = nat_le 0x80 b && nat_lt b 0xc0

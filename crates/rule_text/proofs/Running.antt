@@ -10,7 +10,8 @@ use Rattle.rule_conditions.specs.declared.condition.Cond.TheOpen as conds
 use Rattle.rule_conditions.specs.declared.condition.Sum.{Sum}
 use Rattle.rule_conditions.specs.declared.condition.Term.{Term}
 use Rattle.rule_text.proofs.Grown.{IsFree}
-use Rattle.rule_text.specs.Outline.{together, group, closed, with_sign, read_unit, wrapped, whole_unit, no_partial, with_atom, with_phase, phase_after, step, finish, start}
+use Rattle.rule_conditions.specs.Outline.{together, group}
+use Rattle.rule_text.specs.Outline.{closed, with_sign, read_unit, wrapped, whole_unit, no_partial, with_atom, with_phase, phase_after, step, finish, start}
 use Rattle.rule_text.specs.declared.outline.Outline.{Outline}
 use Rattle.rule_text.specs.declared.outline.Partial.{Partial}
 use Rattle.rule_text.specs.declared.outline.Frame.{Frame}

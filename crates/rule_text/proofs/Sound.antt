@@ -16,8 +16,9 @@ use Rattle.rule_text.proofs.Choice.{chosen}
 use Rattle.rule_text.proofs.Cuts.{space_utf8}
 use Rattle.rule_text.proofs.Grown.{AreBefore, separated_last, Before, group_whole, levels, before_and, before_or, Wraps, wraps, TermsBefore, OperatedRead, sum_read, SideRead, Part, test_unit, unit_read}
 use Rattle.rule_text.proofs.Tokenwise.{token_taken}
-use Rattle.rule_text.specs.Lexing.{behind_space}
-use Rattle.rule_text.specs.Outline.{together, group, closed, with_sign, read_unit, wrapped, whole_unit, no_partial, with_atom, with_phase, null_test, like_test, after_atom, after_is, after_like, after_comparison, after_sign, after_times, after_not_inside, tested_sum, left_sum, phase_after, inner_step, after_not, after_open, after_and, after_or, after_close, left, has_room, is_unit, step, finish, ended, start}
+use Rattle.rule_conditions.specs.Lexing.{behind_space}
+use Rattle.rule_conditions.specs.Outline.{together, group}
+use Rattle.rule_text.specs.Outline.{closed, with_sign, read_unit, wrapped, whole_unit, no_partial, with_atom, with_phase, null_test, like_test, after_atom, after_is, after_like, after_comparison, after_sign, after_times, after_not_inside, tested_sum, left_sum, phase_after, inner_step, after_not, after_open, after_and, after_or, after_close, left, has_room, is_unit, step, finish, ended, start}
 use Rattle.rule_text.specs.Reading.{Reads, Ends, Short, Steps, Fails}
 use Rattle.rule_text.specs.declared.outline.Outline.{Outline}
 use Rattle.rule_text.specs.declared.outline.Partial.{Partial}
@@ -45,6 +46,7 @@ null_part n sum negated atoms.Null ph t u e s h =
 null_part n sum negated atoms.Priority ph t u e s h = cc
 null_part n sum negated atoms.Corr ph t u e s h = cc
 null_part n sum negated (atoms.Cell name) ph t u e s h = cc
+null_part n sum negated (atoms.Prop name) ph t u e s h = cc
 
 like_part : (n : ℕ) (sum : Sum) (negated : Bool) (atom : Atom) (ph : Phase) (t u : List Token) → u ≡ t ++ not_if negated (LikeWord ∷ []) → IsSum sum t → like_test sum negated atom ≡ Some ph → Part n ph (u ++ Operand atom ∷ [])
 like_part n sum negated (atoms.Number z) ph t u e s h = cc
@@ -60,6 +62,7 @@ like_part n sum negated atoms.Null ph t u e s h = cc
 like_part n sum negated atoms.Priority ph t u e s h = cc
 like_part n sum negated atoms.Corr ph t u e s h = cc
 like_part n sum negated (atoms.Cell name) ph t u e s h = cc
+like_part n sum negated (atoms.Prop name) ph t u e s h = cc
 
 is_null_part : (n : ℕ) (sum : Sum) (negated : Bool) (atom : Atom) (ph : Phase) (t u : List Token) → u ++ Operand atoms.Null ∷ [] ≡ t ++ IsWord ∷ not_if negated (Operand atoms.Null ∷ []) → IsSum sum t → null_test sum negated atom ≡ Some ph → Part n ph (u ++ Operand atom ∷ [])
 is_null_part n sum negated atom ph t u e s h =

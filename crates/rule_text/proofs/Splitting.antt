@@ -1,7 +1,8 @@
 -- Where a word is split from what follows.
 use Rattle.std.proofs.Common.{◌≡◌, ℕ, ◌+◌, ◌<◌, List, [], ◌∷◌, ◌++◌, true, false, take, drop, length, refl, add-one, get_or, suc, arith}
 use Rattle.std.proofs.Math.Seq.{take-suc, drop-cons}
-use Rattle.rule_text.specs.Lexing.{begins_any, word_split, is_begun}
+use Rattle.rule_conditions.specs.Lexing.{is_begun}
+use Rattle.rule_text.specs.Lexing.{begins_any, word_split}
 use Rattle.rule_text.specs.declared.outline.Outline.{Outline}
 
 one_more : (s : Outline) (head : List ℕ) (b : ℕ) (rest : List ℕ) → begins_any s (head ++ b ∷ []) ≡ true → word_split s (head ++ b ∷ []) rest ≡ word_split s head (b ∷ rest)

@@ -13,8 +13,10 @@ use Rattle.rule_conditions.specs.declared.condition.Cond.TheOpen as conds
 use Rattle.rule_text.proofs.Choice.{chosen}
 use Rattle.rule_text.proofs.Choosing.{yes_cond, no_cond}
 use Rattle.rule_text.proofs.Taking.{as_token_ok, found_passes}
-use Rattle.rule_text.specs.Lexing.{word_token, token_at, word_at, word_split, ended_word, found_word, is_whole, symbol, symbol_or, comparison_token, comparison_at, is_comparison_byte, number_at, content_at}
-use Rattle.rule_text.specs.Outline.{group, read_unit, wrapped, whole_unit, with_phase, no_partial, with_atom, with_sign, closed, together, is_open, after_atom, after_is, after_like, after_comparison, after_sign, after_times, after_not_inside, tested_sum, left_sum, phase_after, after_not, after_open, after_and, after_or, after_close, left, deeper, opened, has_room, is_unit, step, takes_atom, takes_text, takes_sign, takes_test, takes_end, takes_open, takes_close, takes_word, is_is, is_is_not, is_not_like, is_left}
+use Rattle.rule_conditions.specs.Lexing.{symbol_or, comparison_token, comparison_at, is_comparison_byte, number_at, content_at}
+use Rattle.rule_text.specs.Lexing.{word_token, token_at, word_at, word_split, ended_word, found_word, is_whole, symbol}
+use Rattle.rule_conditions.specs.Outline.{group, together}
+use Rattle.rule_text.specs.Outline.{read_unit, wrapped, whole_unit, with_phase, no_partial, with_atom, with_sign, closed, is_open, after_atom, after_is, after_like, after_comparison, after_sign, after_times, after_not_inside, tested_sum, left_sum, phase_after, after_not, after_open, after_and, after_or, after_close, left, deeper, opened, has_room, is_unit, step, takes_atom, takes_text, takes_sign, takes_test, takes_end, takes_open, takes_close, takes_word, is_is, is_is_not, is_not_like, is_left}
 use Rattle.rule_text.specs.declared.outline.Outline.{Outline}
 use Rattle.rule_text.specs.declared.outline.Partial.{Partial}
 use Rattle.rule_text.specs.declared.outline.Frame.{Frame}
@@ -209,6 +211,7 @@ word_some s words.Null head h = inner_some s (grammar.Operand atoms.Null) (null_
 word_some s words.Priority head h = inner_some s (grammar.Operand atoms.Priority) (atom_some s.phase atoms.Priority h)
 word_some s words.Corr head h = inner_some s (grammar.Operand atoms.Corr) (atom_some s.phase atoms.Corr h)
 word_some s words.Cell head h = inner_some s (word_token words.Cell head) (atom_some s.phase (atoms.Cell (str_to_ascii_lowercase (drop 14 head))) h)
+word_some s words.Prop head h = inner_some s (word_token words.Prop head) (atom_some s.phase (atoms.Prop (str_to_ascii_lowercase (drop 14 head))) h)
 
 pub number_some : (s : Outline) (atom : Atom) → takes_atom s.phase ≡ true → IsSome (step s (grammar.Operand atom))
 number_some s atom h = inner_some s (grammar.Operand atom) (atom_some s.phase atom h)

@@ -7,7 +7,7 @@ use Rattle.std.proofs.lemmas.Bool.{eqb-true, ltb-true, and_parts}
 use Rattle.std.proofs.lemmas.List.{take-append-drop}
 use Rattle.std.proofs.lemmas.Bool.Decides.{nat_tests}
 use Rattle.rule_conditions.specs.Tokens as grammar
-use Rattle.rule_conditions.specs.Tokens.{is_space, is_digit, is_end_of_word, is_word, may_end, Spells, SpellsText}
+use Rattle.rule_conditions.specs.Tokens.{is_space, is_digit, is_end_of_word, is_word, may_end, Spells, SpellsNamed, SpellsText}
 use Rattle.rule_conditions.specs.declared.condition.Atom.TheVariants as atoms
 use Rattle.rule_conditions.specs.declared.condition.Cmp.{Cmp}
 use Rattle.rule_conditions.specs.declared.condition.Cmp.TheVariants as cmps
@@ -15,7 +15,8 @@ use Rattle.rule_text.proofs.Choice.{chosen}
 use Rattle.rule_text.proofs.Cuts.{cut_ascii, cut_first}
 use Rattle.rule_text.proofs.Digits.{number_taken}
 use Rattle.rule_text.proofs.Letters.{field_name_is_name, field_name_ascii}
-use Rattle.rule_text.specs.Lexing.{word_at, word_split, word_token, ended_word, found_word, is_whole, is_begun, begins_any, is_cell, is_field_name, spelled, symbol, symbol_or, comparison_token, comparison_at, behind_less, behind_greater, behind_bang, is_comparison_byte, as_token, number_token, number_at, other_at}
+use Rattle.rule_conditions.specs.Lexing.{is_begun, is_field_name, symbol_or, comparison_token, comparison_at, behind_less, behind_greater, behind_bang, is_comparison_byte, as_token, number_token, number_at}
+use Rattle.rule_text.specs.Lexing.{word_at, word_split, word_token, ended_word, found_word, is_whole, begins_any, is_named, spelled, symbol, other_at}
 use Rattle.rule_text.specs.Outline.{takes_word, takes_test, takes_sign, takes_open, takes_close}
 use Rattle.rule_text.specs.declared.outline.Outline.{Outline}
 use Rattle.rule_text.specs.declared.tokens.Word.{Word}
@@ -35,7 +36,7 @@ ends_so token rest h = elim (not (is_word token)) as (λ b. (b || is_end_of_word
 
 -- words
 
-begun_lower : (letters head : List ℕ) → is_begun letters head ≡ true → length head ≡ length letters → str_to_ascii_lowercase head ≡ letters
+pub begun_lower : (letters head : List ℕ) → is_begun letters head ≡ true → length head ≡ length letters → str_to_ascii_lowercase head ≡ letters
 begun_lower [] [] h e = refl
 begun_lower (l ∷ letters) [] h e = absurd (omega arith)
 begun_lower [] (b ∷ head) h e = cc
@@ -77,6 +78,7 @@ spelled_ascii words.Null = ascii_by_test (spelled words.Null) refl
 spelled_ascii words.Priority = ascii_by_test (spelled words.Priority) refl
 spelled_ascii words.Corr = ascii_by_test (spelled words.Corr) refl
 spelled_ascii words.Cell = ascii_by_test (spelled words.Cell) refl
+spelled_ascii words.Prop = ascii_by_test (spelled words.Prop) refl
 
 spelled_some : (w : Word) → 0 < length (spelled w)
 spelled_some words.Or = omega arith
@@ -88,43 +90,78 @@ spelled_some words.Null = omega arith
 spelled_some words.Priority = omega arith
 spelled_some words.Corr = omega arith
 spelled_some words.Cell = omega arith
+spelled_some words.Prop = omega arith
 
 pub record Whole (w : Word) (head : List ℕ) : Type 0 where
   pub some : 0 < length head
   pub ascii : AllByRecursion (λ b. b < 128) head
   pub spells : Spells (word_token w head) head
 
-pub fixed_whole : (w : Word) (head : List ℕ) → is_cell w ≡ false → is_whole w head ≡ true → (length head ≡ length (spelled w)) × (is_begun (spelled w) head ≡ true)
+pub fixed_whole : (w : Word) (head : List ℕ) → is_named w ≡ false → is_whole w head ≡ true → (length head ≡ length (spelled w)) × (is_begun (spelled w) head ≡ true)
 fixed_whole w head e h =
     let h2 : ((length head == length (spelled w)) && is_begun (spelled w) head) ≡ true = rw e at h in
     let both = and_parts _ _ h2 in
     (eqb-true _ _ both.0, both.1)
 
-pub fixed_spells : (w : Word) (head : List ℕ) → is_cell w ≡ false → is_whole w head ≡ true → str_to_ascii_lowercase head ≡ spelled w
+pub fixed_spells : (w : Word) (head : List ℕ) → is_named w ≡ false → is_whole w head ≡ true → str_to_ascii_lowercase head ≡ spelled w
 fixed_spells w head e h = let f = fixed_whole w head e h in begun_lower (spelled w) head f.1 f.0
 
-whole_fixed : (w : Word) (head : List ℕ) → is_cell w ≡ false → is_whole w head ≡ true → Spells (word_token w head) head → Whole w head
+whole_fixed : (w : Word) (head : List ℕ) → is_named w ≡ false → is_whole w head ≡ true → Spells (word_token w head) head → Whole w head
 whole_fixed w head e h spells =
     let f = fixed_whole w head e h in
     let some = spelled_some w in
     record { some = omega arith; ascii = begun_ascii (spelled w) head (spelled_ascii w) f.1; spells = spells }
 
+-- fourteen letters, with a name behind them, begin with the head
+abbrev pub begins_named : List ℕ → List ℕ → Bool
+begins_named letters head = cond (nat_lt 14 (length head)) (is_begun letters (take 14 head) && is_field_name (drop 14 head)) (is_begun letters head)
+
+-- the head is these letters with a name behind them
+abbrev pub is_whole_named : List ℕ → List ℕ → Bool
+is_whole_named letters head = nat_lt 14 (length head) && begins_named letters head
+
+pub named_parts : (letters head : List ℕ) → is_whole_named letters head ≡ true → (14 < length head) × (is_begun letters (take 14 head) ≡ true) × (is_field_name (drop 14 head) ≡ true)
+named_parts letters head h =
+    let both = and_parts _ _ h in
+    let begun : (is_begun letters (take 14 head) && is_field_name (drop 14 head)) ≡ true = rw both.0 at both.1 in
+    let parts = and_parts _ _ begun in
+    (ltb-true 14 (length head) both.0, parts.0, parts.1)
+
+pub named_lower : (letters head : List ℕ) → length letters ≡ 14 → is_whole_named letters head ≡ true → str_to_ascii_lowercase (take 14 head) ≡ letters
+named_lower letters head len h =
+    let parts = named_parts letters head h in
+    let long = parts.0 in
+    let front : length (take 14 head) ≡ 14 = length-take-le 14 head (omega arith) in
+    begun_lower letters (take 14 head) parts.1 (front ∙ sym len)
+
+named_ascii : (letters head : List ℕ) → AllByRecursion (λ b. b < 128) letters → is_whole_named letters head ≡ true → AllByRecursion (λ b. b < 128) head
+named_ascii letters head ascii h =
+    let parts = named_parts letters head h in
+    let P : List ℕ → Type 0 = λ x. AllByRecursion (λ b. b < 128) x in
+    subst P (take-append-drop 14 head) (ascii_append (take 14 head) (drop 14 head) (begun_ascii letters (take 14 head) ascii parts.1) (field_name_ascii (drop 14 head) parts.2))
+
+named_spells : (letters head : List ℕ) → length letters ≡ 14 → is_whole_named letters head ≡ true → SpellsNamed letters (str_to_ascii_lowercase (drop 14 head)) head
+named_spells letters head len h = record {
+  is_name = sym (field_name_is_name (drop 14 head)) ∙ (named_parts letters head h).2;
+  spelled = ap str_to_ascii_lowercase (sym (take-append-drop 14 head)) ∙ lower_append (take 14 head) (drop 14 head) ∙ ap (λ (x : List ℕ). x ++ str_to_ascii_lowercase (drop 14 head)) (named_lower letters head len h);
+}
+
 whole_cell : (head : List ℕ) → is_whole words.Cell head ≡ true → Whole words.Cell head
 whole_cell head h =
-    let both = and_parts _ _ h in
-    let long = ltb-true 14 (length head) both.0 in
-    let begun : (is_begun (spelled words.Cell) (take 14 head) && is_field_name (drop 14 head)) ≡ true = rw both.0 at both.1 in
-    let parts = and_parts _ _ begun in
-    let whole : take 14 head ++ drop 14 head ≡ head = take-append-drop 14 head in
-    let front_len : length (take 14 head) ≡ 14 = length-take-le 14 head (omega arith) in
-    let P : List ℕ → Type 0 = λ x. AllByRecursion (λ b. b < 128) x in
+    let long = (named_parts (spelled words.Cell) head h).0 in
     record {
       some = omega arith;
-      ascii = subst P whole (ascii_append (take 14 head) (drop 14 head) (begun_ascii (spelled words.Cell) (take 14 head) (spelled_ascii words.Cell) parts.0) (field_name_ascii (drop 14 head) parts.1));
-      spells = record {
-        is_name = sym (field_name_is_name (drop 14 head)) ∙ parts.1;
-        spelled = ap str_to_ascii_lowercase (sym whole) ∙ lower_append (take 14 head) (drop 14 head) ∙ ap (λ (x : List ℕ). x ++ str_to_ascii_lowercase (drop 14 head)) (begun_lower (spelled words.Cell) (take 14 head) parts.0 front_len);
-      };
+      ascii = named_ascii (spelled words.Cell) head (spelled_ascii words.Cell) h;
+      spells = named_spells (spelled words.Cell) head refl h;
+    }
+
+whole_prop : (head : List ℕ) → is_whole words.Prop head ≡ true → Whole words.Prop head
+whole_prop head h =
+    let long = (named_parts (spelled words.Prop) head h).0 in
+    record {
+      some = omega arith;
+      ascii = named_ascii (spelled words.Prop) head (spelled_ascii words.Prop) h;
+      spells = named_spells (spelled words.Prop) head refl h;
     }
 
 pub whole_word : (w : Word) (head : List ℕ) → is_whole w head ≡ true → Whole w head
@@ -137,6 +174,7 @@ whole_word words.Null head h = whole_fixed words.Null head refl h (fixed_spells 
 whole_word words.Priority head h = whole_fixed words.Priority head refl h (fixed_spells words.Priority head refl h)
 whole_word words.Corr head h = whole_fixed words.Corr head refl h (fixed_spells words.Corr head refl h)
 whole_word words.Cell head h = whole_cell head h
+whole_word words.Prop head h = whole_prop head h
 
 pub split_same : (s : Outline) (head text : List ℕ) (out : List ℕ × List ℕ) → word_split s head text ≡ out → head ++ text ≡ out.0 ++ out.1
 split_same s head [] out e = ap (λ (x : List ℕ × List ℕ). x.0 ++ x.1) e

@@ -12,7 +12,7 @@ use Rattle.rule_text.proofs.Choice.{chosen}
 use Rattle.rule_text.proofs.Choosing.{yes_cond, no_cond}
 use Rattle.rule_text.proofs.Doubling.{quoted_bytes}
 use Rattle.rule_text.proofs.Room.{goes_on, FitsFrom, Leads, leads}
-use Rattle.rule_text.specs.Lexing.{content_at, has_room, char_len}
+use Rattle.rule_conditions.specs.Lexing.{content_at, has_room, char_len}
 
 fits_joined : (n : ℕ) (xs ys : List ℕ) → FitsFrom n xs → FitsFrom (n + length xs) ys → FitsFrom n (xs ++ ys)
 fits_joined n [] ys f g = subst (λ (m : ℕ). FitsFrom m ys) (omega arith) g

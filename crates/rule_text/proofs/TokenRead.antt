@@ -15,8 +15,9 @@ use Rattle.rule_text.proofs.MayCome.{plain_may, null_may, text_may, is_may, comp
 use Rattle.rule_text.proofs.NumberRead.{number_read, number_first, begins_number}
 use Rattle.rule_text.proofs.Sound.{mapped}
 use Rattle.rule_text.proofs.TextRead.{begins_quote, text_split, text_read, text_first}
-use Rattle.rule_text.proofs.WordRead.{IsWordText, word_reads, fixed_text, field_text, field_token, word_first}
-use Rattle.rule_text.specs.Lexing.{token_at, word_at, word_token, is_cell, spelled, symbol, symbol_or, comparison_token, behind_less, behind_greater, is_comparison_byte, as_token, number_token, quoted_at, other_at}
+use Rattle.rule_text.proofs.WordRead.{IsWordText, word_reads, fixed_text, field_text, field_token, prop_text, prop_token, word_first}
+use Rattle.rule_conditions.specs.Lexing.{symbol_or, comparison_token, behind_less, behind_greater, is_comparison_byte, as_token, number_token, quoted_at}
+use Rattle.rule_text.specs.Lexing.{token_at, word_at, word_token, is_named, spelled, symbol, other_at}
 use Rattle.rule_text.specs.Outline.{takes_word, takes_text, takes_atom, takes_test, takes_sign, takes_open, takes_close, step, inner_step, phase_after, with_phase}
 use Rattle.rule_text.specs.declared.outline.Outline.{Outline}
 use Rattle.rule_text.specs.declared.outline.Phase.{Phase}
@@ -171,13 +172,18 @@ pub record Clear (token : grammar.Token) (rest : List ℕ) : Type 0 where
 inner : (s next : Outline) (token : grammar.Token) → inner_step s token ≡ Some next → (ph : Phase) × (phase_after s.phase token ≡ Some ph)
 inner s next token h = let m = mapped (with_phase s) (phase_after s.phase token) next h in (m.0, m.1)
 
-fixed_at : (s : Outline) (w : Word) (text rest : List ℕ) → takes_word s w ≡ true → is_cell w ≡ false → str_to_ascii_lowercase text ≡ spelled w → is_end_of_word rest ≡ true → token_at s (text ++ rest) ≡ taken (word_token w text) rest
+fixed_at : (s : Outline) (w : Word) (text rest : List ℕ) → takes_word s w ≡ true → is_named w ≡ false → str_to_ascii_lowercase text ≡ spelled w → is_end_of_word rest ≡ true → token_at s (text ++ rest) ≡ taken (word_token w text) rest
 fixed_at s w text rest t c e ends = word_token_at s w text rest t (fixed_text w text c e) ends
 
 cell_at : (s : Outline) (name text rest : List ℕ) → takes_atom s.phase ≡ true → Spells (grammar.Operand (atoms.Cell name)) text → is_end_of_word rest ≡ true → token_at s (text ++ rest) ≡ taken (grammar.Operand (atoms.Cell name)) rest
 cell_at s name text rest t spells ends =
     word_token_at s words.Cell text rest t (field_text name text spells) ends
     ∙ ap (λ (x : List ℕ). taken (grammar.Operand (atoms.Cell x)) rest) (field_token name text spells)
+
+prop_at : (s : Outline) (name text rest : List ℕ) → takes_atom s.phase ≡ true → Spells (grammar.Operand (atoms.Prop name)) text → is_end_of_word rest ≡ true → token_at s (text ++ rest) ≡ taken (grammar.Operand (atoms.Prop name)) rest
+prop_at s name text rest t spells ends =
+    word_token_at s words.Prop text rest t (prop_text name text spells) ends
+    ∙ ap (λ (x : List ℕ). taken (grammar.Operand (atoms.Prop x)) rest) (prop_token name text spells)
 
 atom_at : (s next : Outline) (atom : Atom) (word rest : List ℕ) → Spells (grammar.Operand atom) word → may_end (grammar.Operand atom) rest ≡ true → Clear (grammar.Operand atom) rest → step s (grammar.Operand atom) ≡ Some next → token_at s (word ++ rest) ≡ taken (grammar.Operand atom) rest
 atom_at s next (atoms.Number z) word rest spells ends clear h = let i = inner s next (grammar.Operand (atoms.Number z)) h in number_token_at s z word rest (plain_may s.phase i.0 (atoms.Number z) refl i.1) spells ends
@@ -186,6 +192,7 @@ atom_at s next atoms.Null word rest spells ends clear h = let i = inner s next (
 atom_at s next atoms.Priority word rest spells ends clear h = let i = inner s next (grammar.Operand atoms.Priority) h in fixed_at s words.Priority word rest (plain_may s.phase i.0 atoms.Priority refl i.1) refl spells ends
 atom_at s next atoms.Corr word rest spells ends clear h = let i = inner s next (grammar.Operand atoms.Corr) h in fixed_at s words.Corr word rest (plain_may s.phase i.0 atoms.Corr refl i.1) refl spells ends
 atom_at s next (atoms.Cell name) word rest spells ends clear h = let i = inner s next (grammar.Operand (atoms.Cell name)) h in cell_at s name word rest (plain_may s.phase i.0 (atoms.Cell name) refl i.1) spells ends
+atom_at s next (atoms.Prop name) word rest spells ends clear h = let i = inner s next (grammar.Operand (atoms.Prop name)) h in prop_at s name word rest (plain_may s.phase i.0 (atoms.Prop name) refl i.1) spells ends
 
 pub token_read : (s next : Outline) (token : grammar.Token) (word rest : List ℕ) → Spells token word → may_end token rest ≡ true → Clear token rest → step s token ≡ Some next → token_at s (word ++ rest) ≡ Ok (token, rest)
 token_read s next grammar.OrWord word rest spells ends clear h = fixed_at s words.Or word rest (or_may s next h) refl spells ends
@@ -267,6 +274,7 @@ atom_first atoms.Null word spells = word_first_byte (grammar.Operand atoms.Null)
 atom_first atoms.Priority word spells = word_first_byte (grammar.Operand atoms.Priority) words.Priority word (fixed_text words.Priority word refl spells)
 atom_first atoms.Corr word spells = word_first_byte (grammar.Operand atoms.Corr) words.Corr word (fixed_text words.Corr word refl spells)
 atom_first (atoms.Cell name) word spells = word_first_byte (grammar.Operand (atoms.Cell name)) words.Cell word (field_text name word spells)
+atom_first (atoms.Prop name) word spells = word_first_byte (grammar.Operand (atoms.Prop name)) words.Prop word (prop_text name word spells)
 
 pub first_byte : (token : grammar.Token) (word : List ℕ) → Spells token word → First token word
 first_byte grammar.OrWord word spells = word_first_byte grammar.OrWord words.Or word (fixed_text words.Or word refl spells)

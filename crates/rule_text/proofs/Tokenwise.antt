@@ -12,7 +12,8 @@ use Rattle.rule_text.proofs.Cuts.{cut_first}
 use Rattle.rule_text.proofs.Doubling.{content_split, quoted_bytes}
 use Rattle.rule_text.proofs.Room.{content_fits, content_within}
 use Rattle.rule_text.proofs.Taking.{Takes, other_at_taken, number_token_taken, as_token_ok}
-use Rattle.rule_text.specs.Lexing.{token_at, quoted_at, content_at}
+use Rattle.rule_conditions.specs.Lexing.{quoted_at, content_at}
+use Rattle.rule_text.specs.Lexing.{token_at}
 use Rattle.rule_text.specs.Outline.{takes_text, takes_atom}
 use Rattle.rule_text.specs.declared.outline.Outline.{Outline}
 

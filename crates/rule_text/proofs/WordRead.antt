@@ -8,11 +8,12 @@ use Rattle.std.proofs.lemmas.List.{take-append-drop, length-map}
 use Rattle.std.proofs.lemmas.Bool.Decides.{nat_tests}
 use Rattle.payload_records.specs.Name.{is_name, is_name_byte}
 use Rattle.payload_records.specs.declared.TheConstants.{NAME_LIMIT}
-use Rattle.rule_conditions.specs.Tokens.{is_word_byte, is_end_of_word, SpellsField}
+use Rattle.rule_conditions.specs.Tokens.{is_word_byte, is_end_of_word, SpellsNamed}
 use Rattle.rule_text.proofs.Choosing.{yes_cond, no_cond}
 use Rattle.rule_text.proofs.Letters.{field_name_is_name}
-use Rattle.rule_text.proofs.Taking.{fixed_whole, fixed_spells, lower_append}
-use Rattle.rule_text.specs.Lexing.{word_at, word_split, word_token, ended_word, found_word, is_whole, is_begun, begins_word, begins_any, is_cell, is_field_name, spelled}
+use Rattle.rule_text.proofs.Taking.{fixed_whole, fixed_spells, lower_append, begins_named, is_whole_named, named_parts, named_lower}
+use Rattle.rule_conditions.specs.Lexing.{is_begun, is_field_name}
+use Rattle.rule_text.specs.Lexing.{word_at, word_split, word_token, ended_word, found_word, is_whole, begins_word, begins_any, is_named, spelled}
 use Rattle.rule_text.specs.Outline.{takes_word}
 use Rattle.rule_text.specs.declared.outline.Outline.{Outline}
 use Rattle.rule_text.specs.declared.tokens.Word.{Word}
@@ -21,7 +22,7 @@ use Rattle.rule_text.specs.declared.words.TheConstants.{WORDS}
 
 -- the sums of the letters tell the words apart
 abbrev sum_word : ℕ → Word
-sum_word n = cond (n == 225) words.Or (cond (n == 307) words.And (cond (n == 337) words.Not (cond (n == 220) words.Is (cond (n == 421) words.Like (cond (n == 443) words.Null (cond (n == 1255) words.Priority (cond (n == 1000) words.Corr words.Cell)))))))
+sum_word n = cond (n == 225) words.Or (cond (n == 307) words.And (cond (n == 337) words.Not (cond (n == 220) words.Is (cond (n == 421) words.Like (cond (n == 443) words.Null (cond (n == 1255) words.Priority (cond (n == 1000) words.Corr (cond (n == 1355) words.Cell words.Prop))))))))
 
 abbrev word_of : List ℕ → Word
 word_of text = sum_word (fold (λ sum letter. sum + letter) 0 text)
@@ -36,11 +37,12 @@ word_of_spelled words.Null = refl
 word_of_spelled words.Priority = refl
 word_of_spelled words.Corr = refl
 word_of_spelled words.Cell = refl
+word_of_spelled words.Prop = refl
 
 same_spelled : (v w : Word) → spelled v ≡ spelled w → v ≡ w
 same_spelled v w e = sym (word_of_spelled v) ∙ ap word_of e ∙ word_of_spelled w
 
-short_spelled : (w : Word) → is_cell w ≡ false → length (spelled w) ≤ 12
+short_spelled : (w : Word) → is_named w ≡ false → length (spelled w) ≤ 12
 short_spelled words.Or e = omega arith
 short_spelled words.And e = omega arith
 short_spelled words.Not e = omega arith
@@ -50,24 +52,21 @@ short_spelled words.Null e = omega arith
 short_spelled words.Priority e = omega arith
 short_spelled words.Corr e = omega arith
 short_spelled words.Cell e = cc
+short_spelled words.Prop e = cc
 
-cell_is : (w : Word) → is_cell w ≡ true → w ≡ words.Cell
-cell_is words.Or e = cc
-cell_is words.And e = cc
-cell_is words.Not e = cc
-cell_is words.Is e = cc
-cell_is words.Like e = cc
-cell_is words.Null e = cc
-cell_is words.Priority e = cc
-cell_is words.Corr e = cc
-cell_is words.Cell e = refl
+named_spells : (w : Word) (head : List ℕ) → is_named w ≡ true → is_whole w head ≡ true → (14 < length head) × (str_to_ascii_lowercase (take 14 head) ≡ spelled w)
+named_spells words.Or head e h = cc
+named_spells words.And head e h = cc
+named_spells words.Not head e h = cc
+named_spells words.Is head e h = cc
+named_spells words.Like head e h = cc
+named_spells words.Null head e h = cc
+named_spells words.Priority head e h = cc
+named_spells words.Corr head e h = cc
+named_spells words.Cell head e h = ((named_parts (spelled words.Cell) head h).0, named_lower (spelled words.Cell) head refl h)
+named_spells words.Prop head e h = ((named_parts (spelled words.Prop) head h).0, named_lower (spelled words.Prop) head refl h)
 
-long_cell : (w : Word) (head : List ℕ) → is_cell w ≡ true → is_whole w head ≡ true → 14 < length head
-long_cell w head e h =
-    let whole : is_whole words.Cell head ≡ true = subst (λ (v : Word). is_whole v head ≡ true) (cell_is w e) h in
-    ltb-true 14 (length head) (and_parts _ _ whole).0
-
-short_whole : (w : Word) (head : List ℕ) → is_cell w ≡ false → is_whole w head ≡ true → length head ≤ 12
+short_whole : (w : Word) (head : List ℕ) → is_named w ≡ false → is_whole w head ≡ true → length head ≤ 12
 short_whole w head e h =
     let len = (fixed_whole w head e h).0 in
     let short = short_spelled w e in
@@ -76,13 +75,13 @@ short_whole w head e h =
 -- a text is one word at most
 unique : (v w : Word) (head : List ℕ) → is_whole v head ≡ true → is_whole w head ≡ true → v ≡ w
 unique v w head g h =
-    elim (cases_Bool (is_cell v)) [
-      | inl a ↦ elim (cases_Bool (is_cell w)) [
-        | inl b ↦ cell_is v a ∙ sym (cell_is w b)
-        | inr b ↦ let long = long_cell v head a g in let short = short_whole w head b h in absurd (omega arith)
+    elim (cases_Bool (is_named v)) [
+      | inl a ↦ elim (cases_Bool (is_named w)) [
+        | inl b ↦ same_spelled v w (sym (named_spells v head a g).1 ∙ (named_spells w head b h).1)
+        | inr b ↦ let long = (named_spells v head a g).0 in let short = short_whole w head b h in absurd (omega arith)
       ]
-      | inr a ↦ elim (cases_Bool (is_cell w)) [
-        | inl b ↦ let long = long_cell w head b h in let short = short_whole v head a g in absurd (omega arith)
+      | inr a ↦ elim (cases_Bool (is_named w)) [
+        | inl b ↦ let long = (named_spells w head b h).0 in let short = short_whole v head a g in absurd (omega arith)
         | inr b ↦ same_spelled v w (sym (fixed_spells v head a g) ∙ fixed_spells w head b h)
       ]
     ]
@@ -101,6 +100,7 @@ listed words.Null = inr (inr (inr (inr (inr (inl refl)))))
 listed words.Priority = inr (inr (inr (inr (inr (inr (inl refl))))))
 listed words.Corr = inr (inr (inr (inr (inr (inr (inr (inl refl)))))))
 listed words.Cell = inr (inr (inr (inr (inr (inr (inr (inr (inl refl))))))))
+listed words.Prop = inr (inr (inr (inr (inr (inr (inr (inr (inr (inl refl)))))))))
 
 any_listed : (f : Word → Bool) (ws : List Word) (w : Word) → IsListed w ws → f w ≡ true → list_any f ws ≡ true
 any_listed f [] w l h = absurd l
@@ -175,11 +175,12 @@ spelled_bytes words.Null = refl
 spelled_bytes words.Priority = refl
 spelled_bytes words.Corr = refl
 spelled_bytes words.Cell = refl
+spelled_bytes words.Prop = refl
 
 pub begins_bytes : (w : Word) (head : List ℕ) → begins_word w head ≡ true → list_all is_word_byte head ≡ true
 begins_bytes w head h =
     let len = length (spelled w) in
-    elim (cases_Bool (is_cell w && nat_lt len (length head))) [
+    elim (cases_Bool (is_named w && nat_lt len (length head))) [
       | inl a ↦
           let both = and_parts _ _ (sym (yes_cond _ (is_begun (spelled w) (take len head) && is_field_name (drop len head)) (is_begun (spelled w) head) a) ∙ h) in
           let whole : take len head ++ drop len head ≡ head = take-append-drop len head in
@@ -237,12 +238,12 @@ begun_front (x ∷ letters) more (b ∷ front) back e l =
 lower_len : (text : List ℕ) → length (str_to_ascii_lowercase text) ≡ length text
 lower_len text = length-map text to_ascii_lowercase
 
-fixed_front : (w : Word) (front back : List ℕ) → is_cell w ≡ false → str_to_ascii_lowercase (front ++ back) ≡ spelled w → begins_word w front ≡ true
+fixed_front : (w : Word) (front back : List ℕ) → is_named w ≡ false → str_to_ascii_lowercase (front ++ back) ≡ spelled w → begins_word w front ≡ true
 fixed_front w front back e h =
     let len = length (spelled w) in
     let short : length front ≤ length (spelled w) = omega (arith, ap length h, lower_len (front ++ back), length-append front back) in
-    let test : (is_cell w && nat_lt len (length front)) ≡ false = rw e refl in
-    no_cond (is_cell w && nat_lt len (length front)) (is_begun (spelled w) (take len front) && is_field_name (drop len front)) (is_begun (spelled w) front) test
+    let test : (is_named w && nat_lt len (length front)) ≡ false = rw e refl in
+    no_cond (is_named w && nat_lt len (length front)) (is_begun (spelled w) (take len front) && is_field_name (drop len front)) (is_begun (spelled w) front) test
     ∙ begun_front (spelled w) [] front back (h ∙ sym (append-nil (spelled w))) short
 
 some_spelled : (w : Word) → 0 < length (spelled w)
@@ -255,19 +256,20 @@ some_spelled words.Null = omega arith
 some_spelled words.Priority = omega arith
 some_spelled words.Corr = omega arith
 some_spelled words.Cell = omega arith
+some_spelled words.Prop = omega arith
 
-pub fixed_text : (w : Word) (text : List ℕ) → is_cell w ≡ false → str_to_ascii_lowercase text ≡ spelled w → IsWordText w text
+pub fixed_text : (w : Word) (text : List ℕ) → is_named w ≡ false → str_to_ascii_lowercase text ≡ spelled w → IsWordText w text
 fixed_text w text e h =
     let len : length text ≡ length (spelled w) = sym (lower_len text) ∙ ap length h in
     let some = some_spelled w in
     record {
-      whole = and_from _ _ (no_cond (is_cell w) (nat_lt (length (spelled w)) (length text)) (length text == length (spelled w)) e ∙ eq-eqb (length text) (length (spelled w)) len)
+      whole = and_from _ _ (no_cond (is_named w) (nat_lt (length (spelled w)) (length text)) (length text == length (spelled w)) e ∙ eq-eqb (length text) (length (spelled w)) len)
           (fixed_front w text [] e (ap str_to_ascii_lowercase (append-nil text) ∙ h));
       fronts = λ p q f. fixed_front w p q e (ap str_to_ascii_lowercase (sym f) ∙ h);
       some = omega arith;
     }
 
--- fields
+-- fields and properties
 
 cancel : (a b x y : List ℕ) → a ++ x ≡ b ++ y → length a ≡ length b → x ≡ y
 cancel [] [] x y e l = e
@@ -288,59 +290,76 @@ name_front (x ∷ xs) ys l h =
     let fits : length (x ∷ xs) ≤ NAME_LIMIT = omega (arith, length-append xs ys) in
     and_from _ _ (and_from _ _ bytes.0 (all_front is_name_byte (x ∷ xs) ys bytes.1)) (le-leb (length (x ∷ xs)) NAME_LIMIT fits)
 
-abbrev dotted : List ℕ
-dotted = spelled words.Cell
-
--- a front of a field that is longer than what all fields begin with
-long_front : (front back name : List ℕ) → is_name name ≡ true → str_to_ascii_lowercase (front ++ back) ≡ dotted ++ name → 14 < length front → (is_begun dotted (take 14 front) && is_field_name (drop 14 front)) ≡ true
-long_front front back name n e l =
+-- a front that is longer than what stands before the name
+long_front : (letters front back name : List ℕ) → length letters ≡ 14 → is_name name ≡ true → str_to_ascii_lowercase (front ++ back) ≡ letters ++ name → 14 < length front → (is_begun letters (take 14 front) && is_field_name (drop 14 front)) ≡ true
+long_front letters front back name fourteen n e l =
     let a = take 14 front in
     let b = drop 14 front in
     let whole : a ++ b ≡ front = take-append-drop 14 front in
     let len : length a ≡ 14 = length-take-le 14 front (omega arith) in
-    let split : str_to_ascii_lowercase (a ++ (b ++ back)) ≡ dotted ++ name = ap str_to_ascii_lowercase (sym (append_assoc a b back) ∙ ap (λ (x : List ℕ). x ++ back) whole) ∙ e in
+    let split : str_to_ascii_lowercase (a ++ (b ++ back)) ≡ letters ++ name = ap str_to_ascii_lowercase (sym (append_assoc a b back) ∙ ap (λ (x : List ℕ). x ++ back) whole) ∙ e in
     let small_len : length (str_to_ascii_lowercase a) ≡ 14 = lower_len a ∙ len in
     let behind : str_to_ascii_lowercase b ++ str_to_ascii_lowercase back ≡ name =
-    sym (lower_append b back) ∙ cancel (str_to_ascii_lowercase a) dotted (str_to_ascii_lowercase (b ++ back)) name (sym (lower_append a (b ++ back)) ∙ split) small_len in
+    sym (lower_append b back) ∙ cancel (str_to_ascii_lowercase a) letters (str_to_ascii_lowercase (b ++ back)) name (sym (lower_append a (b ++ back)) ∙ split) (small_len ∙ sym fourteen) in
     let some : 0 < length (str_to_ascii_lowercase b) = omega (arith, lower_len b, ap length whole, length-append a b) in
     let named : is_name (str_to_ascii_lowercase b) ≡ true = name_front (str_to_ascii_lowercase b) (str_to_ascii_lowercase back) some (ap is_name behind ∙ n) in
-    and_from _ _ (begun_front dotted name a (b ++ back) split (omega arith)) (field_name_is_name b ∙ named)
+    and_from _ _ (begun_front letters name a (b ++ back) split (omega arith)) (field_name_is_name b ∙ named)
 
-cell_front : (front back name : List ℕ) → is_name name ≡ true → str_to_ascii_lowercase (front ++ back) ≡ dotted ++ name → begins_word words.Cell front ≡ true
-cell_front front back name n e =
+named_front : (letters front back name : List ℕ) → length letters ≡ 14 → is_name name ≡ true → str_to_ascii_lowercase (front ++ back) ≡ letters ++ name → begins_named letters front ≡ true
+named_front letters front back name fourteen n e =
     elim (cases_Bool (nat_lt 14 (length front))) [
       | inl a ↦
-          yes_cond (nat_lt 14 (length front)) (is_begun dotted (take 14 front) && is_field_name (drop 14 front)) (is_begun dotted front) a
-          ∙ long_front front back name n e (ltb-true 14 (length front) a)
+          yes_cond (nat_lt 14 (length front)) (is_begun letters (take 14 front) && is_field_name (drop 14 front)) (is_begun letters front) a
+          ∙ long_front letters front back name fourteen n e (ltb-true 14 (length front) a)
       | inr b ↦
           let short = ltb-false 14 (length front) b in
-          no_cond (nat_lt 14 (length front)) (is_begun dotted (take 14 front) && is_field_name (drop 14 front)) (is_begun dotted front) b
-          ∙ begun_front dotted name front back e (omega arith)
+          no_cond (nat_lt 14 (length front)) (is_begun letters (take 14 front) && is_field_name (drop 14 front)) (is_begun letters front) b
+          ∙ begun_front letters name front back e (omega arith)
     ]
 
 some_name : (name : List ℕ) → is_name name ≡ true → 0 < length name
 some_name [] h = cc
 some_name (x ∷ name) h = omega arith
 
-pub field_text : (name text : List ℕ) → SpellsField name text → IsWordText words.Cell text
+named_long : (letters name text : List ℕ) → length letters ≡ 14 → SpellsNamed letters name text → 14 < length text
+named_long letters name text fourteen f = let some = some_name name f.is_name in omega (arith, lower_len text, ap length f.spelled, length-append letters name)
+
+named_whole : (letters name text : List ℕ) → length letters ≡ 14 → SpellsNamed letters name text → is_whole_named letters text ≡ true
+named_whole letters name text fourteen f =
+    and_from _ _ (lt-ltb 14 (length text) (named_long letters name text fourteen f)) (named_front letters text [] name fourteen f.is_name (ap str_to_ascii_lowercase (append-nil text) ∙ f.spelled))
+
+pub field_text : (name text : List ℕ) → SpellsNamed (spelled words.Cell) name text → IsWordText words.Cell text
 field_text name text f =
-    let some = some_name name f.is_name in
-    let long : 14 < length text = omega (arith, lower_len text, ap length f.spelled, length-append dotted name) in
+    let long = named_long (spelled words.Cell) name text refl f in
     record {
-      whole = and_from _ _ (lt-ltb 14 (length text) long) (cell_front text [] name f.is_name (ap str_to_ascii_lowercase (append-nil text) ∙ f.spelled));
-      fronts = λ p q e. cell_front p q name f.is_name (ap str_to_ascii_lowercase (sym e) ∙ f.spelled);
+      whole = named_whole (spelled words.Cell) name text refl f;
+      fronts = λ p q e. named_front (spelled words.Cell) p q name refl f.is_name (ap str_to_ascii_lowercase (sym e) ∙ f.spelled);
       some = omega arith;
     }
 
-pub field_token : (name text : List ℕ) → SpellsField name text → str_to_ascii_lowercase (drop 14 text) ≡ name
-field_token name text f =
-    let some = some_name name f.is_name in
-    let long : 14 < length text = omega (arith, lower_len text, ap length f.spelled, length-append dotted name) in
+pub prop_text : (name text : List ℕ) → SpellsNamed (spelled words.Prop) name text → IsWordText words.Prop text
+prop_text name text f =
+    let long = named_long (spelled words.Prop) name text refl f in
+    record {
+      whole = named_whole (spelled words.Prop) name text refl f;
+      fronts = λ p q e. named_front (spelled words.Prop) p q name refl f.is_name (ap str_to_ascii_lowercase (sym e) ∙ f.spelled);
+      some = omega arith;
+    }
+
+named_token : (letters name text : List ℕ) → length letters ≡ 14 → SpellsNamed letters name text → str_to_ascii_lowercase (drop 14 text) ≡ name
+named_token letters name text fourteen f =
+    let long = named_long letters name text fourteen f in
     let whole : take 14 text ++ drop 14 text ≡ text = take-append-drop 14 text in
     let len : length (take 14 text) ≡ 14 = length-take-le 14 text (omega arith) in
     let small_len : length (str_to_ascii_lowercase (take 14 text)) ≡ 14 = lower_len (take 14 text) ∙ len in
-    cancel (str_to_ascii_lowercase (take 14 text)) dotted (str_to_ascii_lowercase (drop 14 text)) name
-    (sym (lower_append (take 14 text) (drop 14 text)) ∙ ap str_to_ascii_lowercase whole ∙ f.spelled) small_len
+    cancel (str_to_ascii_lowercase (take 14 text)) letters (str_to_ascii_lowercase (drop 14 text)) name
+    (sym (lower_append (take 14 text) (drop 14 text)) ∙ ap str_to_ascii_lowercase whole ∙ f.spelled) (small_len ∙ sym fourteen)
+
+pub field_token : (name text : List ℕ) → SpellsNamed (spelled words.Cell) name text → str_to_ascii_lowercase (drop 14 text) ≡ name
+field_token name text f = named_token (spelled words.Cell) name text refl f
+
+pub prop_token : (name text : List ℕ) → SpellsNamed (spelled words.Prop) name text → str_to_ascii_lowercase (drop 14 text) ≡ name
+prop_token name text f = named_token (spelled words.Prop) name text refl f
 
 -- first letters
 
@@ -357,6 +376,7 @@ first_letter words.Null b h = letter b 110 (omega arith) (eqb-true _ _ (and_part
 first_letter words.Priority b h = letter b 116 (omega arith) (eqb-true _ _ (and_parts _ _ h).0)
 first_letter words.Corr b h = letter b 116 (omega arith) (eqb-true _ _ (and_parts _ _ h).0)
 first_letter words.Cell b h = letter b 116 (omega arith) (eqb-true _ _ (and_parts _ _ h).0)
+first_letter words.Prop b h = letter b 116 (omega arith) (eqb-true _ _ (and_parts _ _ h).0)
 
 pub word_first : (w : Word) (text : List ℕ) → IsWordText w text → (b : ℕ) × (others : List ℕ) × (text ≡ b ∷ others) × (64 < b)
 word_first w [] is = let some = is.some in absurd (omega arith)

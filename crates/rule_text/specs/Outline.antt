@@ -1,6 +1,7 @@
 -- How an outline of a condition grows by a token.
 use Rattle.std.specs.Prelude.{nat_lt, ◌&&◌, ◌||◌, List, [], ◌∷◌, ◌++◌, length, Bool, true, false, not, Option, Some, None, option_map, option_and_then, if◌then◌else◌}
 use Rattle.std.specs.List.{list_any}
+use Rattle.rule_conditions.specs.Outline.{all_together, group}
 use Rattle.rule_conditions.specs.Tokens as grammar
 use Rattle.rule_conditions.specs.declared.TheConstants.{DEPTH_LIMIT}
 use Rattle.rule_conditions.specs.declared.condition.Atom.{Atom}
@@ -36,15 +37,6 @@ meant tokens.Minus = grammar.Minus
 meant tokens.Times = grammar.Times
 meant tokens.Open = grammar.Open
 meant tokens.Close = grammar.Close
-
--- the operand alone, or all of them as one list
-abbrev pub together : (List Cond → Cond) → List Cond → Cond → Cond
-together many [] last = last
-together many (first ∷ others) last = many ((first ∷ others) ++ last ∷ [])
-
--- what stands between parentheses, where it ends behind this unit
-abbrev pub group : List Cond → List Cond → Cond → Cond
-group alternatives parts unit = together (λ cs. roll-Cond (Any cs)) alternatives (together (λ cs. roll-Cond (All cs)) parts unit)
 
 abbrev pub closed : Partial → Sum
 closed p = record { terms = p.terms ++ record { minus = p.minus; product = record { atoms = p.atoms } } ∷ [] }
@@ -95,6 +87,7 @@ null_test sum negated atoms.Null = Some (phases.Done (roll-Cond (IsNull sum nega
 null_test sum negated atoms.Priority = None
 null_test sum negated atoms.Corr = None
 null_test sum negated (atoms.Cell name) = None
+null_test sum negated (atoms.Prop name) = None
 
 -- behind LIKE or NOT LIKE
 abbrev pub like_test : Sum → Bool → Atom → Option Phase
@@ -104,6 +97,7 @@ like_test sum negated atoms.Null = None
 like_test sum negated atoms.Priority = None
 like_test sum negated atoms.Corr = None
 like_test sum negated (atoms.Cell name) = None
+like_test sum negated (atoms.Prop name) = None
 
 abbrev pub after_atom : Phase → Atom → Option Phase
 after_atom phases.Unit atom = Some (phases.Operated sides.Left (with_atom no_partial atom))
@@ -203,11 +197,19 @@ after_not s = if is_unit s.phase then deeper s else option_map (with_phase s) (a
 abbrev pub after_open : Outline → Option Outline
 after_open s = if is_unit s.phase then opened s else None
 
+-- behind AND, where this is the whole unit before it
+abbrev pub and_behind : Outline → Cond × List Frame → Outline
+and_behind s w = record { alternatives = s.alternatives; parts = s.parts ++ w.0 ∷ []; frames = w.1; phase = phases.Unit }
+
 abbrev pub after_and : Outline → Option Outline
-after_and s = option_map (λ w. record { alternatives = s.alternatives; parts = s.parts ++ w.0 ∷ []; frames = w.1; phase = phases.Unit }) (whole_unit s)
+after_and s = option_map (and_behind s) (whole_unit s)
+
+-- and behind OR
+abbrev pub or_behind : Outline → Cond × List Frame → Outline
+or_behind s w = record { alternatives = s.alternatives ++ all_together s.parts w.0 ∷ []; parts = []; frames = w.1; phase = phases.Unit }
 
 abbrev pub after_or : Outline → Option Outline
-after_or s = option_map (λ w. record { alternatives = s.alternatives ++ together (λ cs. roll-Cond (All cs)) s.parts w.0 ∷ []; parts = []; frames = w.1; phase = phases.Unit }) (whole_unit s)
+after_or s = option_map (or_behind s) (whole_unit s)
 
 -- behind a group in what it stands in
 abbrev pub left : Cond → List Frame → Option Outline
@@ -215,8 +217,12 @@ left unit [] = None
 left unit (frames.Not ∷ outer) = None
 left unit (frames.Open alternatives parts ∷ outer) = Some (record { alternatives = alternatives; parts = parts; frames = outer; phase = phases.Done unit })
 
+-- and behind a closing parenthesis
+abbrev pub close_behind : Outline → Cond × List Frame → Option Outline
+close_behind s w = left (group s.alternatives s.parts w.0) w.1
+
 abbrev pub after_close : Outline → Option Outline
-after_close s = option_and_then (λ w. left (group s.alternatives s.parts w.0) w.1) (whole_unit s)
+after_close s = option_and_then (close_behind s) (whole_unit s)
 
 -- what a token changes of the unit alone
 abbrev pub phase_after : Phase → grammar.Token → Option Phase
@@ -256,8 +262,12 @@ abbrev pub ended : Cond → List Frame → Option Cond
 ended condition [] = Some condition
 ended condition (frame ∷ outer) = None
 
+-- the condition, where this is its last whole unit
+abbrev pub end_behind : Outline → Cond × List Frame → Option Cond
+end_behind s w = ended (group s.alternatives s.parts w.0) w.1
+
 abbrev pub finish : Outline → Option Cond
-finish s = option_and_then (λ w. ended (group s.alternatives s.parts w.0) w.1) (whole_unit s)
+finish s = option_and_then (end_behind s) (whole_unit s)
 
 abbrev pub start : Outline
 start = record { alternatives = []; parts = []; frames = []; phase = phases.Unit }
@@ -367,3 +377,4 @@ takes_word s words.Null = takes_atom s.phase || is_is s.phase || is_is_not s.pha
 takes_word s words.Priority = takes_atom s.phase
 takes_word s words.Corr = takes_atom s.phase
 takes_word s words.Cell = takes_atom s.phase
+takes_word s words.Prop = takes_atom s.phase

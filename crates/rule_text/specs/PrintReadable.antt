@@ -24,6 +24,7 @@ is_spelled atoms.Null = true
 is_spelled atoms.Priority = true
 is_spelled atoms.Corr = true
 is_spelled (atoms.Cell name) = is_name name
+is_spelled (atoms.Prop name) = is_name name
 
 -- at least one atom, each of them spelled
 abbrev pub is_readable_product : List Atom → Bool

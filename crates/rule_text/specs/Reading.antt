@@ -1,9 +1,11 @@
 -- What reading a text gives: a condition, or what is left where no condition goes on.
-use Rattle.std.specs.Prelude.{◌≡◌, ◌≢◌, ℕ, List, [], Some, None, Result, Ok, Err}
+use Rattle.std.specs.Prelude.{◌≡◌, ◌≢◌, ◌⊎◌, ℕ, List, [], Some, None, Result, Ok, Err}
 use Rattle.rule_conditions.specs.Tokens as grammar
 use Rattle.rule_conditions.specs.Grammar.{IsTextOf, EndsAt}
+use Rattle.rule_conditions.specs.Reading.{condition_of}
 use Rattle.rule_conditions.specs.declared.condition.Cond.{Cond}
-use Rattle.rule_text.specs.Lexing.{behind_space, token_at}
+use Rattle.rule_conditions.specs.Lexing.{behind_space}
+use Rattle.rule_text.specs.Lexing.{token_at}
 use Rattle.rule_text.specs.Outline.{step, finish}
 use Rattle.rule_text.specs.declared.outline.Outline.{Outline}
 use Rattle.rule_text.specs.declared.fault.ReadFault.{ReadFault}
@@ -24,6 +26,15 @@ pub data Reads : Outline → List ℕ → Result Cond (List ℕ) → Type 0 wher
 abbrev pub StopsWith : Stop → (Result Cond (List ℕ) → Type 0) → Type 0
 StopsWith (stops.At rest) Gives = Gives (Err rest.now)
 StopsWith stops.Memory Gives = Unit {0}
+
+-- the condition is read, or memory runs out
+abbrev pub IsReadAs : Result Cond ReadFault → Cond → Type 0
+IsReadAs result condition = (result ≡ Ok condition) ⊎ (result ≡ Err faults.Memory)
+
+-- reading it, as it is computed, stops there
+abbrev pub TellsStop : ReadFault → List ℕ → Type 0
+TellsStop (faults.Bad at) text = condition_of text ≡ Err at
+TellsStop faults.Memory text = Unit {0}
 
 -- The text is that of no condition, and so many of its first bytes begin one, and no more do.
 abbrev pub FaultTells : ReadFault → List ℕ → Type 0

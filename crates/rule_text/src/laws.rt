@@ -13,15 +13,18 @@ pub fn readable_prints()
 /// A condition that has a text in the grammar is readable: its print takes no more levels of NOT and
 /// parentheses than the text does.
 pub fn text_is_readable()
-    ensures { (text : List ℕ) (condition : Cond) → IsTextOf text condition → IsTrue (is_readable condition) }
+    ensures { (text : List ℕ) (condition : Cond)
+        → IsTextOf text condition → IsTrue (is_readable condition) }
 {}
 
 /// Where a condition has a text in the grammar, its print is one too.
 pub fn print_is_text()
-    ensures { (text : List ℕ) (condition : Cond) → IsTextOf text condition → IsTextOf (print condition) condition }
+    ensures { (text : List ℕ) (condition : Cond)
+        → IsTextOf text condition → IsTextOf (print condition) condition }
 {}
 
 /// A text is that of one condition at most.
 pub fn text_has_one_condition()
-    ensures { (text : List ℕ) (condition other : Cond) → IsTextOf text condition → IsTextOf text other → condition ≡ other }
+    ensures { (text : List ℕ) (condition other : Cond)
+        → IsTextOf text condition → IsTextOf text other → condition ≡ other }
 {}

@@ -2,7 +2,8 @@
 ghost use Rattle.std.specs.Prelude.{◌≡◌, ◌∷◌, [], false, IfOk};
 ghost use Rattle.std.specs.Str.{IsUtf8};
 ghost use Rattle.rule_conditions.specs.Tokens.{is_space};
-ghost use Rattle.rule_text.specs.Lexing.{Gives, is_comparison_byte, content_at, behind_space, quoted_at, number_token, comparison_token, other_at, token_at};
+ghost use Rattle.rule_conditions.specs.Lexing.{is_comparison_byte, content_at, behind_space, quoted_at, number_token, comparison_token};
+ghost use Rattle.rule_text.specs.Lexing.{Gives, other_at, token_at};
 ghost use Rattle.rule_text.specs.Outline.{meant};
 
 use crate::numbers::{is_digit, number_at};

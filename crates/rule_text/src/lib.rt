@@ -19,6 +19,3 @@ pub use fault::ReadFault;
 pub use laws::{print_is_text, readable_prints, text_has_one_condition, text_is_readable};
 pub use printer::print;
 pub use reader::read;
-
-#[cfg(test)]
-mod tests;

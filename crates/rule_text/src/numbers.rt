@@ -1,7 +1,8 @@
 // Numbers in a condition's text.
 ghost use Rattle.std.specs.Prelude.{◌≡◌, ◌-◌, ◌+◌, ◌*◌, ◌<◌, ◌≤◌, IsTrue, IfOk, ◌↔◌};
 ghost use Rattle.rule_conditions.specs.Tokens.{is_digit, is_word_byte};
-ghost use Rattle.rule_text.specs.Lexing.{Gives, limit, signed, digits_at, unsigned_at, number_at};
+ghost use Rattle.rule_conditions.specs.Lexing.{limit, signed, digits_at, unsigned_at, number_at};
+ghost use Rattle.rule_text.specs.Lexing.{Gives};
 
 use crate::stop::Stop;
 

@@ -1,15 +1,15 @@
 // Prints conditions.
-ghost use Rattle.std.specs.Prelude.{◌≡◌, ◌++◌, [], ◌∷◌, IfOk, OnOk, string_bytes, codes, if◌then◌else◌};
+ghost use Rattle.std.specs.Prelude.{◌≡◌, [], ◌∷◌, IfOk, OnOk, codes, if◌then◌else◌};
 ghost use Rattle.std.specs.Str.{chars, encode_utf8_all};
 ghost use Rattle.rule_conditions.specs.Print.{doubled, quoted, atom_text, product_text, followed, sign_text, terms_after, terms_text, first_text, cmp_text, null_text, like_text, sum_text, printed, print};
-ghost use Rattle.rule_text.specs.Printing.{opening_in_any, closing_in_any, opening_in_all, closing_in_all};
+ghost use Rattle.rule_text.specs.Printing.{opening_in_any, closing_in_any, opening_in_all, closing_in_all, comparison_text, null_test_text, like_test_text, Appends};
 
 use payload_records::{List, Text};
 use rule_conditions::{Atom, Cmp, Cond, Product, Sum, Term};
 use std::alloc::{AllocError, Global};
 
 fn put_character(out: &mut String, character: char) -> Result<(), AllocError>
-    ensures { OnOk result (string_bytes out.new ≡ string_bytes out.old ++ encode_utf8_all (doubled (character ∷ []))) }
+    ensures { OnOk result (Appends out.old out.new (encode_utf8_all (doubled (character ∷ [])))) }
 {
     if character == '\'' {
         out.push_str("''")
@@ -19,7 +19,7 @@ fn put_character(out: &mut String, character: char) -> Result<(), AllocError>
 }
 
 fn put_doubled(out: &mut String, text: &str) -> Result<(), AllocError>
-    ensures { OnOk result (string_bytes out.new ≡ string_bytes out.old ++ encode_utf8_all (doubled (chars text.now))) }
+    ensures { OnOk result (Appends out.old out.new (encode_utf8_all (doubled (chars text.now)))) }
 {
     for character in text.chars() {
         put_character(out, character)?;
@@ -28,7 +28,7 @@ fn put_doubled(out: &mut String, text: &str) -> Result<(), AllocError>
 }
 
 fn put_quoted(out: &mut String, text: &Text) -> Result<(), AllocError>
-    ensures { OnOk result (string_bytes out.new ≡ string_bytes out.old ++ quoted text.now) }
+    ensures { OnOk result (Appends out.old out.new (quoted text.now)) }
 {
     out.push_str("'")?;
     put_doubled(out, text.as_str())?;
@@ -36,7 +36,7 @@ fn put_quoted(out: &mut String, text: &Text) -> Result<(), AllocError>
 }
 
 fn put_atom(out: &mut String, atom: &Atom) -> Result<(), AllocError>
-    ensures { OnOk result (string_bytes out.new ≡ string_bytes out.old ++ atom_text atom.now) }
+    ensures { OnOk result (Appends out.old out.new (atom_text atom.now)) }
 {
     match atom {
         Atom::Number(number) => {
@@ -51,11 +51,15 @@ fn put_atom(out: &mut String, atom: &Atom) -> Result<(), AllocError>
             out.push_str("tab.user_data.")?;
             out.push_str(name.as_str())
         }
+        Atom::Prop(name) => {
+            out.push_str("tab.user_prop.")?;
+            out.push_str(name.as_str())
+        }
     }
 }
 
 fn put_product(out: &mut String, product: &Product) -> Result<(), AllocError>
-    ensures { OnOk result (string_bytes out.new ≡ string_bytes out.old ++ product_text product.now.atoms) }
+    ensures { OnOk result (Appends out.old out.new (product_text product.now.atoms)) }
 {
     let mut before = "";
     for atom in &product.atoms {
@@ -79,14 +83,14 @@ fn first_sign_text(minus: bool) -> &'static str
 }
 
 fn put_first(out: &mut String, term: &Term) -> Result<(), AllocError>
-    ensures { OnOk result (string_bytes out.new ≡ string_bytes out.old ++ first_text term.now) }
+    ensures { OnOk result (Appends out.old out.new (first_text term.now)) }
 {
     out.push_str(first_sign_text(term.minus))?;
     put_product(out, &term.product)
 }
 
 fn put_sum(out: &mut String, sum: &Sum) -> Result<(), AllocError>
-    ensures { OnOk result (string_bytes out.new ≡ string_bytes out.old ++ sum_text sum.now) }
+    ensures { OnOk result (Appends out.old out.new (sum_text sum.now)) }
 {
     let mut terms = sum.terms.iter();
     let Some(first) = terms.next() else {
@@ -126,7 +130,7 @@ fn like_text(not_like: bool) -> &'static str
 }
 
 fn put_comparison(out: &mut String, left: &Sum, how: Cmp, right: &Sum) -> Result<(), AllocError>
-    ensures { OnOk result (string_bytes out.new ≡ string_bytes out.old ++ (sum_text left.now ++ (cmp_text how ++ sum_text right.now))) }
+    ensures { OnOk result (Appends out.old out.new (comparison_text left.now how right.now)) }
 {
     put_sum(out, left)?;
     out.push_str(cmp_text(how))?;
@@ -134,7 +138,7 @@ fn put_comparison(out: &mut String, left: &Sum, how: Cmp, right: &Sum) -> Result
 }
 
 fn put_null_test(out: &mut String, sum: &Sum, not_null: bool) -> Result<(), AllocError>
-    ensures { OnOk result (string_bytes out.new ≡ string_bytes out.old ++ (sum_text sum.now ++ null_text not_null)) }
+    ensures { OnOk result (Appends out.old out.new (null_test_text sum.now not_null)) }
 {
     put_sum(out, sum)?;
     out.push_str(null_text(not_null))
@@ -146,7 +150,7 @@ fn put_like_test(
     pattern: &Text,
     not_like: bool,
 ) -> Result<(), AllocError>
-    ensures { OnOk result (string_bytes out.new ≡ string_bytes out.old ++ (sum_text sum.now ++ (like_text not_like ++ quoted pattern.now))) }
+    ensures { OnOk result (Appends out.old out.new (like_test_text sum.now not_like pattern.now)) }
 {
     put_sum(out, sum)?;
     out.push_str(like_text(not_like))?;
@@ -193,7 +197,7 @@ fn around_in_all(part: &Cond) -> Around
 }
 
 fn put(out: &mut String, condition: &Cond) -> Result<(), AllocError>
-    ensures { OnOk result (string_bytes out.new ≡ string_bytes out.old ++ print condition.now) }
+    ensures { OnOk result (Appends out.old out.new (print condition.now)) }
 {
     match condition {
         Cond::Any(parts) => {
@@ -244,6 +248,3 @@ pub fn print(alloc: Global, condition: &Cond) -> Result<Text, AllocError>
     put(&mut out, condition)?;
     Text::of(alloc, out.as_str())
 }
-
-#[cfg(test)]
-mod tests;

@@ -1,7 +1,8 @@
 // Texts between apostrophes in a condition's text.
 ghost use Rattle.std.specs.Prelude.{◌≡◌, [], false};
 ghost use Rattle.std.specs.Str.{IsUtf8};
-ghost use Rattle.rule_text.specs.Lexing.{Gives, char_len, has_room, content_at};
+ghost use Rattle.rule_conditions.specs.Lexing.{char_len, has_room, content_at};
+ghost use Rattle.rule_text.specs.Lexing.{Gives};
 
 use crate::stop::Stop;
 use rule_conditions::TEXT_LIMIT;

@@ -1,14 +1,14 @@
 // Reads conditions from texts.
-ghost use Rattle.std.specs.Prelude.{◌≡◌, ◌⊎◌, [], Ok, Err, IfOk, IfErr, IsTrue};
+ghost use Rattle.std.specs.Prelude.{◌≡◌, [], Ok, IfOk, IfErr, IsTrue};
 ghost use Rattle.std.specs.Str.{IsUtf8};
 ghost use Rattle.rule_text.specs.Outline.{start};
 ghost use Rattle.rule_conditions.specs.Grammar.{IsTextOf};
 ghost use Rattle.rule_conditions.specs.Print.{print};
+ghost use Rattle.rule_conditions.specs.Reading.{condition_of};
 ghost use Rattle.rule_conditions.specs.declared.condition.Cond.{Cond};
 ghost use Rattle.rule_text.specs.PrintReadable.{is_readable};
-ghost use Rattle.rule_text.specs.declared.fault.ReadFault.TheVariants as faults;
-ghost use Rattle.rule_text.specs.Reading.{Reads, StopsWith, FaultTells};
-ghost use Rattle.rule_text.specs.Lexing.{behind_space};
+ghost use Rattle.rule_text.specs.Reading.{Reads, StopsWith, FaultTells, TellsStop, IsReadAs};
+ghost use Rattle.rule_conditions.specs.Lexing.{behind_space};
 
 use crate::fault::ReadFault;
 use crate::lexer::{behind_space, token_at};
@@ -66,9 +66,12 @@ fn condition_at<'a>(alloc: Global, text: &'a [u8]) -> Result<Cond, Stop<'a>>
 #[tactic(auto, using(crate::proofs::Sound::read_is_text, crate::proofs::Complete::printed_is_found, crate::proofs::Begins::left_within))]
 pub fn read(alloc: Global, text: &str) -> Result<Cond, ReadFault>
     ensures ok { IfOk result (λ condition. IsTextOf text.now condition) }
-    ensures complete { (condition : Cond) → IsTextOf text.now condition → (result ≡ Ok condition) ⊎ (result ≡ Err faults.Memory) }
-    ensures printed { (condition : Cond) → IsTrue (is_readable condition) → text.now ≡ print condition → (result ≡ Ok condition) ⊎ (result ≡ Err faults.Memory) }
+    ensures complete { (condition : Cond) → IsTextOf text.now condition → IsReadAs result condition }
+    ensures printed { (condition : Cond) → IsTrue (is_readable condition)
+        → text.now ≡ print condition → IsReadAs result condition }
     ensures bad { IfErr result (λ e. FaultTells e text.now) }
+    ensures computed { IfOk result (λ condition. condition_of text.now ≡ Ok condition) }
+    ensures stopped { IfErr result (λ e. TellsStop e text.now) }
 {
     let bytes = text.as_bytes();
     match condition_at(alloc, bytes) {

@@ -1,6 +1,7 @@
 // How an outline grows by a token.
 ghost use Rattle.std.specs.Prelude.{◌≡◌, ◌∷◌, ◌++◌, [], IfOk, option_map};
-ghost use Rattle.rule_text.specs.Outline.{group, together, read_unit, closed, wrapped, whole_unit, with_atom, no_partial, after_atom, after_not, after_is, after_like, after_comparison, after_sign, after_times, after_and, after_or, after_open, after_close, finish, step, meant, null_test, like_test, left_sum, tested_sum, has_room, deeper, opened, is_unit, is_is, after_not_inside, with_phase, left, phase_after, takes_atom, takes_text, takes_sign, takes_test, takes_end, takes_open, takes_close, takes_word, is_open, is_is_not, is_not_like};
+ghost use Rattle.rule_conditions.specs.Outline.{group, together};
+ghost use Rattle.rule_text.specs.Outline.{read_unit, closed, wrapped, whole_unit, with_atom, no_partial, after_atom, after_not, after_is, after_like, after_comparison, after_sign, after_times, after_and, after_or, after_open, after_close, finish, inner_step, step, meant, null_test, like_test, left_sum, tested_sum, has_room, deeper, opened, is_unit, is_is, after_not_inside, with_phase, left, phase_after, takes_atom, takes_text, takes_sign, takes_test, takes_end, takes_open, takes_close, takes_word, is_open, is_is_not, is_not_like};
 ghost use Rattle.std.specs.List.{list_any};
 
 use crate::outline::{Frame, Outline, Partial, Phase, Side, put_front, take_front};
@@ -258,7 +259,7 @@ impl Outline {
             Word::Is => self.takes_test(),
             Word::Like => self.takes_test() || is_not_like(&self.phase),
             Word::Null => self.takes_null(),
-            Word::Priority | Word::Corr | Word::Cell => self.takes_atom(),
+            Word::Priority | Word::Corr | Word::Cell | Word::Prop => self.takes_atom(),
         }
     }
 
@@ -523,7 +524,7 @@ fn phase_after(alloc: Global, phase: Phase, token: Token) -> Result<Option<Phase
 }
 
 fn inner_step(alloc: Global, outline: Outline, token: Token) -> Result<Option<Outline>, AllocError>
-    ensures { IfOk result (λ s. s ≡ option_map (with_phase outline) (phase_after outline.phase (meant token))) }
+    ensures { IfOk result (λ s. s ≡ inner_step outline (meant token)) }
 {
     let Outline {
         alternatives,

@@ -1,6 +1,7 @@
 // Signs in a condition's text.
 ghost use Rattle.std.specs.Prelude.{◌≡◌, option_map};
-ghost use Rattle.rule_text.specs.Lexing.{Gives, parenthesis, symbol, is_comparison_byte, behind_less, behind_greater, behind_bang, comparison_at};
+ghost use Rattle.rule_conditions.specs.Lexing.{is_comparison_byte, behind_less, behind_greater, behind_bang, comparison_at};
+ghost use Rattle.rule_text.specs.Lexing.{Gives, parenthesis, symbol};
 ghost use Rattle.rule_text.specs.Outline.{meant};
 
 use crate::outline::Outline;

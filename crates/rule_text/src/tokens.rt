@@ -51,4 +51,6 @@ pub enum Word {
     Corr,
     /// `tab.user_data.`, behind which the name of a field stands.
     Cell,
+    /// `tab.user_prop.`, behind which the name of a property stands.
+    Prop,
 }

@@ -5,7 +5,8 @@ ghost use Rattle.std.specs.Char.{to_ascii_lowercase};
 ghost use Rattle.std.specs.Str.{IsUtf8, str_to_ascii_lowercase};
 ghost use Rattle.payload_records.specs.Name.{is_name_byte, is_small_letter};
 ghost use Rattle.rule_conditions.specs.Tokens.{is_end_of_word};
-ghost use Rattle.rule_text.specs.Lexing.{Gives, spelled, is_begun, begins_word, is_whole, is_cell, begins_any, is_field_name, word_split, found_word, word_token, word_at};
+ghost use Rattle.rule_conditions.specs.Lexing.{is_begun, is_field_name};
+ghost use Rattle.rule_text.specs.Lexing.{Gives, spelled, begins_word, is_whole, is_named, begins_any, word_split, found_word, word_token, word_at};
 ghost use Rattle.rule_text.specs.Outline.{meant, takes_word};
 
 use crate::numbers::is_word_byte;
@@ -17,7 +18,7 @@ use rule_conditions::Atom;
 use std::alloc::{AllocError, Global};
 
 /// Each word.
-pub const WORDS: [Word; 9] = [
+pub const WORDS: [Word; 10] = [
     Word::Or,
     Word::And,
     Word::Not,
@@ -27,6 +28,7 @@ pub const WORDS: [Word; 9] = [
     Word::Priority,
     Word::Corr,
     Word::Cell,
+    Word::Prop,
 ];
 
 fn spelled(word: Word) -> &'static str
@@ -42,6 +44,7 @@ fn spelled(word: Word) -> &'static str
         Word::Priority => "tab.priority",
         Word::Corr => "tab.corrid",
         Word::Cell => "tab.user_data.",
+        Word::Prop => "tab.user_prop.",
     }
 }
 
@@ -90,17 +93,18 @@ fn is_name(text: &[u8]) -> bool
     }
 }
 
-fn is_cell(word: Word) -> bool
-    ensures { result ≡ is_cell word }
+/// Whether a name stands behind the word's letters.
+fn is_named(word: Word) -> bool
+    ensures { result ≡ is_named word }
 {
-    matches!(word, Word::Cell)
+    matches!(word, Word::Cell | Word::Prop)
 }
 
 fn begins_word(word: Word, head: &[u8]) -> bool
     ensures { result ≡ begins_word word head.now }
 {
     let letters = spelled(word).as_bytes();
-    if is_cell(word) && head.len() > letters.len() {
+    if is_named(word) && head.len() > letters.len() {
         let (front, name) = head.split_at(letters.len());
         is_begun(letters, front) && is_name(name)
     } else {
@@ -112,7 +116,7 @@ fn is_whole(word: Word, head: &[u8]) -> bool
     ensures { result ≡ is_whole word head.now }
 {
     let len = spelled(word).len();
-    if is_cell(word) {
+    if is_named(word) {
         head.len() > len && begins_word(word, head)
     } else {
         head.len() == len && begins_word(word, head)
@@ -127,7 +131,8 @@ fn begins_any(outline: &Outline, head: &[u8]) -> bool
 }
 
 fn found_word(outline: &Outline, words: &[Word], head: &[u8]) -> Option<Word>
-    ensures value { result ≡ find (λ word. takes_word outline.now word && is_whole word head.now) words.now }
+    ensures value { result
+        ≡ find (λ word. takes_word outline.now word && is_whole word head.now) words.now }
     ensures whole { IfSome result (λ word. IsTrue (is_whole word head.now)) }
 {
     for word in words {
@@ -138,8 +143,8 @@ fn found_word(outline: &Outline, words: &[Word], head: &[u8]) -> Option<Word>
     None
 }
 
-#[tactic(auto, using(crate::proofs::Splitting::split_on, crate::proofs::Splitting::split_off))]
 /// How many bytes at the front begin a word that may come.
+#[tactic(auto, using(crate::proofs::Splitting::split_on, crate::proofs::Splitting::split_off))]
 fn word_len(outline: &Outline, rest: &[u8]) -> usize
     ensures within { result ≤ length rest.now }
     ensures split { word_split outline.now [] rest.now ≡ (take result rest.now, drop result rest.now) }
@@ -170,12 +175,12 @@ fn lowered(alloc: Global, text: &[u8]) -> Result<String, AllocError>
 }
 
 #[tactic(auto, using(crate::proofs::Letters::name_is_utf8, crate::proofs::Letters::lowered_is_name))]
-fn cell<'a>(alloc: Global, name: &[u8]) -> Result<Atom, Stop<'a>>
-    requires { IsTrue (is_field_name name.now) }
-    ensures { Gives (λ atom. atom) result (Ok (Atom.Cell (str_to_ascii_lowercase name.now))) }
+fn name_of<'a>(alloc: Global, text: &[u8]) -> Result<Name, Stop<'a>>
+    requires { IsTrue (is_field_name text.now) }
+    ensures { Gives (λ name. name) result (Ok (str_to_ascii_lowercase text.now)) }
 {
-    match Name::read(alloc, lowered(alloc, name)?.as_str()) {
-        Ok(name) => Ok(Atom::Cell(name)),
+    match Name::read(alloc, lowered(alloc, text)?.as_str()) {
+        Ok(name) => Ok(name),
         Err(NameFault::Memory) => Err(Stop::Memory),
         Err(NameFault::Bad) => unreachable!(),
     }
@@ -196,13 +201,17 @@ fn word_token<'a>(alloc: Global, word: Word, head: &[u8]) -> Result<Token, Stop<
         Word::Corr => Ok(Token::Operand(Atom::Corr)),
         Word::Cell => {
             let len = spelled(word).len();
-            Ok(Token::Operand(cell(alloc, &head[len..])?))
+            Ok(Token::Operand(Atom::Cell(name_of(alloc, &head[len..])?)))
+        }
+        Word::Prop => {
+            let len = spelled(word).len();
+            Ok(Token::Operand(Atom::Prop(name_of(alloc, &head[len..])?)))
         }
     }
 }
 
-#[tactic(auto, unfolding(crate::specs::Lexing::found_word))]
 /// The word at the front, of those that may come, and what is left behind it.
+#[tactic(auto, unfolding(crate::specs::Lexing::found_word))]
 pub fn word_at<'a>(
     alloc: Global,
     outline: &Outline,

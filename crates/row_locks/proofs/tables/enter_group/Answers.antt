@@ -1,8 +1,8 @@
 use Rattle.std.proofs.Common.{◌≡◌, ℕ, Option, Some, ◌∙◌, ap, subst, arith}
 use Rattle.row_locks.specs.Groups.{class_of, group_at, rank_at, place_of, count_of, number_in, DiffersAt, HasAlone}
-use Rattle.row_locks.specs.declared.mark.Group.{Group}
+use Rattle.slot_marks.specs.declared.mark.Group.{Group}
 use Rattle.row_locks.proofs.EnteringLemmas.{put_beside, put_grouped}
-use Rattle.row_locks.proofs.TallyLemmas.{tally_bound}
+use Rattle.row_locks.proofs.NumberCountLemmas.{number_count_bound}
 use Rattle.row_locks.proofs.tables.enter_group.Goals as goal
 
 pub returns-in_default-clause-grouped : goal.returns-in_default-clause-grouped
@@ -14,7 +14,7 @@ pub put-requires-clause-counts : goal.put-requires-clause-counts
 put-requires-clause-counts c =
     let key = c.key_of_group-key.result in
     let groups = c.args.groups.now in
-    omega (arith, c.requires.grouped.counts.counted key.number key.names, tally_bound (λ r. number_in (group_at c.args.tables.now.items) (place_of groups.classes key.names r)) key.number (count_of groups.classes key.names))
+    omega (arith, c.requires.grouped.counts.counted key.number key.names, number_count_bound (λ r. number_in (group_at c.args.tables.now.items) (place_of groups.classes key.names r)) key.number (count_of groups.classes key.names))
 
 pub returns-clause-grouped : goal.returns-clause-grouped
 returns-clause-grouped c = λ new groups ranks.

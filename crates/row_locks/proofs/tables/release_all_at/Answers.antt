@@ -1,7 +1,7 @@
 use Rattle.std.proofs.Common.{None, slice_set, cond, ◌∙◌, ap}
 use Rattle.row_locks.specs.Entries.{no_entries}
 use Rattle.row_locks.specs.Slots.{hold_of}
-use Rattle.row_locks.specs.Marks.{has_slot}
+use Rattle.slot_marks.specs.Marks.{has_slot}
 use Rattle.row_locks.proofs.TableLemmas.{emptied_at, kept_beside_it, index_emptied}
 use Rattle.row_locks.proofs.tables.release_all_at.Goals as goal
 

@@ -1,6 +1,6 @@
 -- What is left reads as the whole does.
 use Rattle.std.proofs.Common.{◌≡◌, ◌≤◌, length}
-use Rattle.rule_text.specs.Lexing.{limit, digits_at}
+use Rattle.rule_conditions.specs.Lexing.{limit, digits_at}
 use Rattle.rule_text.proofs.numbers.digits_at.Given as goal
 
 abbrev pub invariant-loop-byte : goal.invariant-loop-byte

@@ -1,6 +1,6 @@
 -- What is left reads as the whole does.
 use Rattle.std.proofs.Common.{◌≡◌, [], false, length}
-use Rattle.rule_text.specs.Lexing.{content_at}
+use Rattle.rule_conditions.specs.Lexing.{content_at}
 use Rattle.rule_text.proofs.quoted.content_at.Given as goal
 
 abbrev pub invariant-loop-byte : goal.invariant-loop-byte

@@ -2,7 +2,7 @@
 use Rattle.std.proofs.Common.{ℕ, List, Result, length}
 use Rattle.std.specs.Str.{IsUtf8}
 use Rattle.rule_conditions.specs.declared.condition.Cond.{Cond}
-use Rattle.rule_text.specs.Lexing.{behind_space}
+use Rattle.rule_conditions.specs.Lexing.{behind_space}
 use Rattle.rule_text.specs.Outline.{start}
 use Rattle.rule_text.specs.Reading.{Reads}
 use Rattle.rule_text.proofs.reader.condition_at.Given as goal

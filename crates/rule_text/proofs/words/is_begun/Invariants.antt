@@ -1,6 +1,6 @@
 -- What is left is begun where the whole is.
 use Rattle.std.proofs.Common.{◌≡◌, drop}
-use Rattle.rule_text.specs.Lexing.{is_begun}
+use Rattle.rule_conditions.specs.Lexing.{is_begun}
 use Rattle.rule_text.proofs.words.is_begun.Given as goal
 
 abbrev pub invariant-loop-byte : goal.invariant-loop-byte

@@ -1,5 +1,5 @@
 use Rattle.std.proofs.Common.{◌<◌, ◌-◌, length, map, sym, ◌∙◌, ap, arith}
-use Rattle.row_locks.specs.Marks.{marks_of}
+use Rattle.slot_marks.specs.Marks.{marks_of}
 use Rattle.row_locks.specs.Entries.{shown}
 use Rattle.row_locks.specs.Slots.{hold_of, room_of}
 use Rattle.row_locks.proofs.GroupedLemmas.{grouped_emptied}

@@ -53,7 +53,7 @@ invariant_of-self-2 c =
     let grouped =
     grouped_prepared l.sessions.items c.prepare.new.tables.items l.groups c.prepare.new.groups l.spare c.self.invariant.1 p.same p.cells p.group_holds p.group_room in (
       reserved_sound c.prepare.new.tables.items c.reserve_at.new.tables.items (hold_of c.prepare.new.slots) l.spare c.in-Some.more (room_of c.prepare.new.slots) c.args.session sound
-          c.in_ok-prepare.ensures.reached c.in_ok-reserve_at.ensures.ok (omega arith) c.in_ok-prepare.ensures.ok,
+          c.in_ok-prepare.ensures.there c.in_ok-reserve_at.ensures.ok (omega arith) c.in_ok-prepare.ensures.ok,
       grouped_reserved c.prepare.new.tables.items c.reserve_at.new.tables.items c.prepare.new.groups l.spare c.in-Some.more c.args.session grouped
           c.in_ok-reserve_at.ensures.ok c.in_ok-prepare.ensures.ok_groups,
     )
@@ -61,17 +61,17 @@ invariant_of-self-2 c =
 pub returns-clause-room : goal.returns-clause-room
 returns-clause-room c =
     let told =
-    reserved_told c.prepare.new.tables.items c.self.inside.sessions.items c.reserve_at.new.tables.items c.args.session (λ s. ap unranked (c.prepare.ensures.same s)) c.in_ok-prepare.ensures.reached c.in_ok-reserve_at.ensures.ok in
+    reserved_told c.prepare.new.tables.items c.self.inside.sessions.items c.reserve_at.new.tables.items c.args.session (λ s. ap unranked (c.prepare.ensures.same s)) c.in_ok-prepare.ensures.there c.in_ok-reserve_at.ensures.ok in
     rw (← c.self.view_is) told.0
 
 pub returns-clause-marks : goal.returns-clause-marks
 returns-clause-marks c =
     let told =
-    reserved_told c.prepare.new.tables.items c.self.inside.sessions.items c.reserve_at.new.tables.items c.args.session (λ s. ap unranked (c.prepare.ensures.same s)) c.in_ok-prepare.ensures.reached c.in_ok-reserve_at.ensures.ok in
+    reserved_told c.prepare.new.tables.items c.self.inside.sessions.items c.reserve_at.new.tables.items c.args.session (λ s. ap unranked (c.prepare.ensures.same s)) c.in_ok-prepare.ensures.there c.in_ok-reserve_at.ensures.ok in
     rw (← c.self.view_is) told.1
 
 pub returns-clause-rest : goal.returns-clause-rest
 returns-clause-rest c =
     let told =
-    reserved_told c.prepare.new.tables.items c.self.inside.sessions.items c.reserve_at.new.tables.items c.args.session (λ s. ap unranked (c.prepare.ensures.same s)) c.in_ok-prepare.ensures.reached c.in_ok-reserve_at.ensures.ok in
+    reserved_told c.prepare.new.tables.items c.self.inside.sessions.items c.reserve_at.new.tables.items c.args.session (λ s. ap unranked (c.prepare.ensures.same s)) c.in_ok-prepare.ensures.there c.in_ok-reserve_at.ensures.ok in
     rw (← c.self.view_is) told.2

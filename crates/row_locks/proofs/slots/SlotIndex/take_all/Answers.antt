@@ -1,6 +1,6 @@
 use Rattle.std.proofs.Common.{None, cond, refl, ◌∙◌, ap, arith}
 use Rattle.std.proofs.lemmas.List.{take_all}
-use Rattle.row_locks.specs.Marks.{has_slot}
+use Rattle.slot_marks.specs.Marks.{has_slot}
 use Rattle.row_locks.specs.Entries.{is_same_slot}
 use Rattle.row_locks.specs.Slots.{hold_of}
 use Rattle.row_locks.proofs.SlotLemmas.{taken_next}

@@ -1,5 +1,5 @@
 use Rattle.std.proofs.Common.{◌≡◌, ℕ, ◌≤◌, None, cond, take}
-use Rattle.row_locks.specs.Marks.{has_slot}
+use Rattle.slot_marks.specs.Marks.{has_slot}
 use Rattle.row_locks.specs.Slots.{hold_of, room_of}
 use Rattle.row_locks.proofs.slots.SlotIndex.take_all.Given as goal
 
