@@ -1,16 +1,13 @@
 -- What holds of the message that is chosen.
-use Rattle.std.proofs.Common.{◌≡◌, ℕ, List, [], ◌∷◌, Bool, true, false, Option, Some, None, IfSome, inl, inr}
+use Rattle.std.proofs.Common.{◌≡◌, List, [], ◌∷◌, Bool, true, false, Option, Some, None, IfSome, inl, inr}
 use Rattle.std.specs.Prelude.{filter, fold, if◌then◌else◌}
 use Rattle.std.specs.Option.{option_or}
 use Rattle.std.proofs.lemmas.Bool.{cases_Bool, and_parts}
 use Rattle.place_keys.specs.Place.{stands_before}
-use Rattle.row_locks.specs.Marks.{SessionMarks}
 use Rattle.queue_rows.specs.Dequeueing.{nearer, is_browse}
-use Rattle.queue_rows.specs.declared.rows.QueueRow.{QueueRow}
 use Rattle.queue_rows.specs.declared.rows.MsgRow.{MsgRow}
 use Rattle.queue_rows.specs.declared.session.Position.{Position}
-use Rattle.queue_rows.specs.declared.statement.Mode.{Mode}
-use Rattle.dequeue_ops.specs.Available.{is_available}
+use Rattle.dequeue_ops.specs.Available.{Criteria, is_available}
 use Rattle.dequeue_ops.specs.Chosen.{is_behind, is_wanted, least_wanted, chosen_behind}
 
 module _ (P : MsgRow → Type 0) where
@@ -38,14 +35,14 @@ module _ (P : MsgRow → Type 0) where
   ]
 
 -- it may be given
-module _ (locks : List SessionMarks) (actor : ℕ) (mode : Mode) (queue : QueueRow) (p : Option Position) (ms : List MsgRow) where
+module _ (c : Criteria) (p : Option Position) (ms : List MsgRow) where
   abbrev pub IsAvailable : MsgRow → Type 0
-  IsAvailable m = is_available locks actor mode queue m ≡ true
+  IsAvailable m = is_available c m ≡ true
 
-  wanted-available : (q : Option Position) → IfSome (least_wanted locks actor mode queue q ms) IsAvailable
-  wanted-available q = fold-each IsAvailable (is_wanted locks actor mode queue q) (λ m e. (and_parts (is_available locks actor mode queue m) (is_behind q m) e).0) None ms tt
+  wanted-available : (q : Option Position) → IfSome (least_wanted c q ms) IsAvailable
+  wanted-available q = fold-each IsAvailable (is_wanted c q) (λ m e. (and_parts (is_available c m) (is_behind q m) e).0) None ms tt
 
-  pub chosen-available : IfSome (chosen_behind locks actor mode queue p ms) (λ m. is_available locks actor mode queue m ≡ true)
-  chosen-available = if-each IsAvailable (is_browse mode) (least_wanted locks actor mode queue p ms) (option_or (least_wanted locks actor mode queue p ms) (least_wanted locks actor mode queue None ms))
+  pub chosen-available : IfSome (chosen_behind c p ms) (λ m. is_available c m ≡ true)
+  chosen-available = if-each IsAvailable (is_browse c.mode) (least_wanted c p ms) (option_or (least_wanted c p ms) (least_wanted c None ms))
       (wanted-available p)
-      (or-each IsAvailable (least_wanted locks actor mode queue p ms) (least_wanted locks actor mode queue None ms) (wanted-available p) (wanted-available None))
+      (or-each IsAvailable (least_wanted c p ms) (least_wanted c None ms) (wanted-available p) (wanted-available None))

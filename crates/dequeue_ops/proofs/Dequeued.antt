@@ -6,16 +6,17 @@ use Rattle.std.specs.Str.{bytes_eq}
 use Rattle.std.proofs.lemmas.Bool.{le-ltb, cases_Bool}
 use Rattle.std.proofs.lemmas.List.Elements.{All-head, All-tail}
 use Rattle.aq_base.specs.declared.DbId.{DbId}
-use Rattle.row_locks.specs.Marks.{SessionMarks, marks_of}
-use Rattle.row_locks.specs.Marks as row
-use Rattle.queue_rows.specs.Built.{IsPlainDequeue}
+use Rattle.slot_marks.specs.Marks.{SessionMarks, marks_of}
+use Rattle.slot_marks.specs.Marks as row
+use Rattle.built_statements.specs.Built.{IsPlainDequeue}
 use Rattle.queue_rows.specs.Rows.{find_table, find_queue, slot_of}
 use Rattle.queue_rows.specs.Settling.{is_exception}
 use Rattle.queue_rows.specs.Session.{Session, is_position, has_removed}
 use Rattle.queue_rows.specs.Session as session
+use Rattle.queue_rows.specs.Conditions.{optional_condition}
 use Rattle.queue_rows.specs.Meaning.{Meaning, parks, refused}
 use Rattle.queue_rows.specs.Dequeueing as def
-use Rattle.queue_rows.specs.Dequeueing.{Look, Choice, nothing, found_or, choice, next_or_first, least, past, is_past, is_browse, is_remove, is_ready_slot, is_by_transaction, candidates, chosen, given, given_in, given_by, dequeue, dequeue_from, dequeue_typed, dequeue_by}
+use Rattle.queue_rows.specs.Dequeueing.{Look, Choice, nothing, found_or, choice, next_or_first, least, past, is_past, is_browse, is_remove, is_ready_slot, is_by_transaction, candidates, chosen, given_chosen, given_in, given_by, dequeue, dequeue_from, dequeue_typed}
 use Rattle.queue_rows.specs.declared.tables.Tables.{Tables}
 use Rattle.queue_rows.specs.declared.rows.TableRow.{TableRow}
 use Rattle.queue_rows.specs.declared.rows.QueueRow.{QueueRow}
@@ -35,9 +36,9 @@ use Rattle.sessions.specs.Within.{IsPlainTable}
 use Rattle.sessions.specs.declared.state.Effect.{Effect}
 use Rattle.sessions.specs.declared.state.SessionState.{SessionState}
 use Rattle.sessions.specs.declared.state.PositionMove.TheVariants as moves
-use Rattle.dequeue_ops.specs.Available.{own_slot, is_available, is_available_slot}
+use Rattle.dequeue_ops.specs.Available.{Criteria, own_slot, is_available, is_available_slot}
 use Rattle.dequeue_ops.specs.Chosen.{is_wanted, least_wanted, begin_of, chosen_behind}
-use Rattle.dequeue_ops.specs.Effects.{answering, refusing, move_of, message_reply, position_at, giving_in, effect_by, effect_in, effect_from, effect_of}
+use Rattle.dequeue_ops.specs.Effects.{Asked, answering, refusing, move_of, message_reply, position_at, giving_in, effect_by, effect_in, effect_from, effect_of}
 use Rattle.dequeue_ops.proofs.Holding.{held-same, removed-same}
 
 -- ---- lists and tests
@@ -103,35 +104,35 @@ waking s = record s { parked = None }
 
 -- ---- the choice
 
-module _ (locks : List SessionMarks) (actor : ℕ) (mode : Mode) (queue : QueueRow) (ms : List MsgRow) where
+module _ (c : Criteria) (ms : List MsgRow) where
   abbrev open_ones : List MsgRow
-  open_ones = filter (is_available locks actor mode queue) ms
+  open_ones = filter (is_available c) ms
 
-  wanted-first : least_wanted locks actor mode queue None ms ≡ least open_ones
-  wanted-first = ap least (filter-same (is_wanted locks actor mode queue None) (is_available locks actor mode queue) ms (λ m. and-true (is_available locks actor mode queue m)))
+  wanted-first : least_wanted c None ms ≡ least open_ones
+  wanted-first = ap least (filter-same (is_wanted c None) (is_available c) ms (λ m. and-true (is_available c m)))
 
-  wanted-past : (p : Position) → least_wanted locks actor mode queue (Some p) ms ≡ least (past p open_ones)
-  wanted-past p = ap least (sym (filter-filter (is_past p) (is_available locks actor mode queue) ms))
+  wanted-past : (p : Position) → least_wanted c (Some p) ms ≡ least (past p open_ones)
+  wanted-past p = ap least (sym (filter-filter (is_past p) (is_available c) ms))
 
   chosen_either : (browse : Bool) (x : Option MsgRow) → (if browse then x else option_or x x) ≡ x
   chosen_either true x = refl
   chosen_either false x = or-same x
 
-  chosen-first : chosen_behind locks actor mode queue None ms ≡ least open_ones
-  chosen-first = chosen_either (is_browse mode) (least_wanted locks actor mode queue None ms) ∙ wanted-first
+  chosen-first : chosen_behind c None ms ≡ least open_ones
+  chosen-first = chosen_either (is_browse c.mode) (least_wanted c None ms) ∙ wanted-first
 
   found_past : (browse : Bool) (x y : Option MsgRow) → found_or (if browse then nothing else found_or nothing y) x ≡ found_or nothing (if browse then x else option_or x y)
   found_past true x y = refl
   found_past false None y = refl
   found_past false (Some m) y = refl
 
-  choice-past : (p : Position) → next_or_first mode p open_ones ≡ found_or nothing (chosen_behind locks actor mode queue (Some p) ms)
+  choice-past : (p : Position) → next_or_first c.mode p open_ones ≡ found_or nothing (chosen_behind c (Some p) ms)
   choice-past p =
-      found_past (is_browse mode) (least (past p open_ones)) (least open_ones)
-      ∙ ap (λ x. found_or nothing (if is_browse mode then x else option_or x (least open_ones))) (sym (wanted-past p))
-      ∙ ap (λ y. found_or nothing (if is_browse mode then least_wanted locks actor mode queue (Some p) ms else option_or (least_wanted locks actor mode queue (Some p) ms) y)) (sym wanted-first)
+      found_past (is_browse c.mode) (least (past p open_ones)) (least open_ones)
+      ∙ ap (λ x. found_or nothing (if is_browse c.mode then x else option_or x (least open_ones))) (sym (wanted-past p))
+      ∙ ap (λ y. found_or nothing (if is_browse c.mode then least_wanted c (Some p) ms else option_or (least_wanted c (Some p) ms) y)) (sym wanted-first)
 
-  choice-here : (navigation : Navigation) (p : Option Position) → is_by_transaction navigation ≡ false → choice navigation p false mode open_ones ≡ found_or nothing (chosen_behind locks actor mode queue (begin_of navigation p) ms)
+  choice-here : (navigation : Navigation) (p : Option Position) → is_by_transaction navigation ≡ false → choice navigation p false c.mode open_ones ≡ found_or nothing (chosen_behind c (begin_of navigation p) ms)
   choice-here navigations.First p plain = ap (found_or nothing) (sym chosen-first)
   choice-here navigations.Next None plain = ap (found_or nothing) (sym chosen-first)
   choice-here navigations.Next (Some p) plain = choice-past p
@@ -141,7 +142,7 @@ module _ (locks : List SessionMarks) (actor : ℕ) (mode : Mode) (queue : QueueR
 
 module _ (t : Tables) (sessions : List Session) (locks : List SessionMarks) (actor : ℕ) (s : Session) (ask : Dequeue) (moment : ℕ) (are : AreMarks s.at sessions locks) (mine : slice_get sessions actor ≡ Some s) (navigation : is_by_transaction ask.navigation ≡ false) where
   abbrev pub look_of : QueueRow → TableRow → Look
-  look_of queue table = record { tables = t; sessions = sessions; actor = actor; session = waking s; queue = queue; table = single_of table; ask = plain_of ask }
+  look_of queue table = record { tables = t; sessions = sessions; actor = actor; session = waking s; queue = queue; table = single_of table; ask = plain_of ask; condition = None }
 
   -- the meaning of an effect
   abbrev pub means : Effect → Meaning
@@ -159,19 +160,26 @@ module _ (t : Tables) (sessions : List Session) (locks : List SessionMarks) (act
   available-by queue table m true = available-slot queue table m 0
   available-by queue table m false = available-slot queue table m 1
 
-  available-same : (queue : QueueRow) (table : TableRow) (m : MsgRow) → def.is_available (look_of queue table) m ≡ is_available locks actor ask.mode queue m
+  abbrev pub criteria_in : QueueRow → Criteria
+  criteria_in queue = record { marks = locks; actor = actor; mode = ask.mode; queue = queue }
+
+  -- what is asked, with another form of the statement
+  abbrev pub asking : Dequeue → Asked
+  asking form = record { tables = t; marks = locks; actor = actor; at = s.at; positions = s.positions; ask = form; moment = moment }
+
+  available-same : (queue : QueueRow) (table : TableRow) (m : MsgRow) → def.is_available (look_of queue table) m ≡ is_available (criteria_in queue) m
   available-same queue table m = ap (λ b. bytes_eq m.queue queue.name && b) (available-by queue table m (is_exception queue.kind))
 
   abbrev pub stands : Option Position
   stands = find (is_position ask.queue None) s.positions
 
   abbrev pub chosen_now : QueueRow → Option MsgRow
-  chosen_now queue = chosen_behind locks actor ask.mode queue (begin_of ask.navigation stands) t.messages
+  chosen_now queue = chosen_behind (criteria_in queue) (begin_of ask.navigation stands) t.messages
 
   chosen-same : (queue : QueueRow) (table : TableRow) → chosen (look_of queue table) ≡ found_or nothing (chosen_now queue)
   chosen-same queue table =
-      ap (choice ask.navigation stands false ask.mode) (filter-same (def.is_available (look_of queue table)) (is_available locks actor ask.mode queue) t.messages (available-same queue table))
-      ∙ choice-here locks actor ask.mode queue t.messages ask.navigation stands navigation
+      ap (choice ask.navigation stands false ask.mode) (filter-same (λ m. def.is_available (look_of queue table) m && def.meets (look_of queue table) m) (is_available (criteria_in queue)) t.messages (λ m. and-true (def.is_available (look_of queue table) m) ∙ available-same queue table m))
+      ∙ choice-here (criteria_in queue) t.messages ask.navigation stands navigation
 
   -- ---- what is given
 
@@ -185,7 +193,7 @@ module _ (t : Tables) (sessions : List Session) (locks : List SessionMarks) (act
       ap (λ b. if b then parks moment else refused (def.forgetting ask.navigation (plain_of ask) (waking s)) replies.NoMessage) (no_wait moment (nat_lt moment (2 ^ 62)))
       ∙ none-by ask.navigation
 
-  given-in : (mode : Mode) (visibility : Visibility) (queue : QueueRow) (table : TableRow) (m : MsgRow) (slot : ℕ) → given_in mode visibility (look_of queue table) moment m slot ≡ means (giving_in mode visibility t moment (message_reply s.at ask.mode (single_of table) m slot) (moves.Set (position_at ask.queue m)) m.id slot)
+  given-in : (mode : Mode) (visibility : Visibility) (queue : QueueRow) (table : TableRow) (m : MsgRow) (slot : ℕ) → given_in mode visibility (look_of queue table) (def.standing_at (look_of queue table) m) moment m slot ≡ means (giving_in mode visibility t moment (record { reply = message_reply s.at ask.mode (single_of table) m slot; position = moves.Set (position_at ask.queue m); id = m.id; slot = slot }))
   given-in modes.Remove visibilities.Immediate queue table m slot = refl
   given-in modes.RemoveNodata visibilities.Immediate queue table m slot = refl
   given-in modes.Browse visibility queue table m slot = refl
@@ -194,10 +202,10 @@ module _ (t : Tables) (sessions : List Session) (locks : List SessionMarks) (act
   given-in modes.RemoveNodata visibilities.OnCommit queue table m slot = refl
   given-in modes.Locked visibilities.OnCommit queue table m slot = refl
 
-  given-so : (queue : QueueRow) (table : TableRow) (c : Option MsgRow) → given_by (look_of queue table) moment (found_or nothing c) ≡ means (effect_by t s.at queue (single_of table) (plain_of ask) moment c)
+  given-so : (queue : QueueRow) (table : TableRow) (c : Option MsgRow) → given_by (look_of queue table) moment (found_or nothing c) ≡ means (effect_by (asking (plain_of ask)) queue (single_of table) c)
   given-so queue table None = given-none queue table
   given-so queue table (Some m) =
-      ap (given (look_of queue table) moment m) (some_if (is_exception queue.kind) 0 1)
+      ap (given_chosen (look_of queue table) moment m) (some_if (is_exception queue.kind) 0 1)
       ∙ given-in ask.mode ask.visibility queue table m (own_slot queue)
 
   -- ---- refusals
@@ -206,44 +214,45 @@ module _ (t : Tables) (sessions : List Session) (locks : List SessionMarks) (act
   no_refusal true b c wrong other given e = rw e refl
   no_refusal false b c wrong other given e = rw e refl
 
-  means-by : (queue : QueueRow) (table : TableRow) → dequeue_by (look_of queue table) moment ≡ means (effect_in t locks actor s.at s.positions queue (Some (single_of table)) (plain_of ask) moment)
+  means-by : (queue : QueueRow) (table : TableRow) → dequeue_typed t sessions actor (waking s) queue (Some (single_of table)) (plain_of ask) moment ≡ means (effect_in (asking (plain_of ask)) queue (Some (single_of table)))
+  unfolding optional_condition
   means-by queue table =
       no_refusal (is_exception queue.kind) (not (is_remove ask.mode)) (is_by_transaction ask.navigation) (refused (waking s) replies.WrongKind) (refused (waking s) replies.NotGrouped) (given_by (look_of queue table) moment (chosen (look_of queue table))) navigation
       ∙ ap (given_by (look_of queue table) moment) (chosen-same queue table)
       ∙ given-so queue table (chosen_now queue)
 
-  means-typed : (queue : QueueRow) (table : Option TableRow) → IfSome table IsPlainTable → dequeue_typed t sessions actor (waking s) queue table (plain_of ask) moment ≡ means (effect_in t locks actor s.at s.positions queue table (plain_of ask) moment)
+  means-typed : (queue : QueueRow) (table : Option TableRow) → IfSome table IsPlainTable → dequeue_typed t sessions actor (waking s) queue table (plain_of ask) moment ≡ means (effect_in (asking (plain_of ask)) queue table)
   means-typed queue None plain = refl
   means-typed queue (Some table) plain =
-      let P : TableRow → Type 0 = λ x. dequeue_typed t sessions actor (waking s) queue (Some x) (plain_of ask) moment ≡ means (effect_in t locks actor s.at s.positions queue (Some x) (plain_of ask) moment) in
+      let P : TableRow → Type 0 = λ x. dequeue_typed t sessions actor (waking s) queue (Some x) (plain_of ask) moment ≡ means (effect_in (asking (plain_of ask)) queue (Some x)) in
       subst P (sym (is-single table plain)) (means-by queue table)
 
   by_refusal : (b : Bool) (x : Meaning) (e : Effect) → x ≡ means e → (if b then refused (waking s) replies.DequeueOff else x) ≡ means (if b then refusing replies.DequeueOff else e)
   by_refusal true x e same = refl
   by_refusal false x e same = same
 
-  means-from : (queue : Option QueueRow) → All IsPlainTable t.tables → dequeue_from t sessions actor (waking s) queue (plain_of ask) moment ≡ means (effect_from t locks actor s.at s.positions queue (plain_of ask) moment)
+  means-from : (queue : Option QueueRow) → All IsPlainTable t.tables → dequeue_from t sessions actor (waking s) queue (plain_of ask) moment ≡ means (effect_from (asking (plain_of ask)) queue)
   means-from None plain = refl
   means-from (Some queue) plain =
-      by_refusal (not queue.dequeue) (dequeue_typed t sessions actor (waking s) queue (find_table t queue.table) (plain_of ask) moment) (effect_in t locks actor s.at s.positions queue (find_table t queue.table) (plain_of ask) moment)
+      by_refusal (not queue.dequeue) (dequeue_typed t sessions actor (waking s) queue (find_table t queue.table) (plain_of ask) moment) (effect_in (asking (plain_of ask)) queue (find_table t queue.table))
       (means-typed queue (find_table t queue.table) (found_each IsPlainTable (λ r. bytes_eq r.name queue.table) t.tables plain))
 
-  means-waking : All IsPlainTable t.tables → dequeue t sessions actor (waking s) (plain_of ask) moment ≡ means (effect_of t locks actor s.at s.positions (plain_of ask) moment)
+  means-waking : All IsPlainTable t.tables → dequeue t sessions actor (waking s) (plain_of ask) moment ≡ means (effect_of (asking (plain_of ask)))
   unfolding dequeue
   means-waking plain = means-from (find_queue t ask.queue) plain
 
 -- what a dequeue means is its effect
-pub effect-means : (t : Tables) (locks : List SessionMarks) (actor : ℕ) (state : SessionState) (ask : Dequeue) (moment : ℕ) → IsPlainDequeue ask → All IsPlainTable t.tables → state.parked ≡ None
-    → (sessions : List Session) (s : Session) → AreMarks state.at sessions locks → slice_get sessions actor ≡ Some s → IsStateOf state s
-    → dequeue t sessions actor s ask moment ≡ meant (effect_of t locks actor state.at state.positions ask moment) ask.queue ask.consumer moment s
-effect-means t locks actor state ask moment plain tables unparked sessions s are mine is =
-    let here : AreMarks s.at sessions locks = subst (λ (db : DbId). AreMarks db sessions locks) (sym is.at) are in
+pub effect-means : (a : Asked) (state : SessionState) → a.at ≡ state.at → a.positions ≡ state.positions → IsPlainDequeue a.ask → All IsPlainTable a.tables.tables → state.parked ≡ None
+    → (sessions : List Session) (s : Session) → AreMarks state.at sessions a.marks → slice_get sessions a.actor ≡ Some s → IsStateOf state s
+    → dequeue a.tables sessions a.actor s a.ask a.moment ≡ meant (effect_of a) a.ask.queue a.ask.consumer a.moment s
+effect-means a state at positions plain tables unparked sessions s are mine is =
+    let ask = a.ask in
+    let Means : Session → Asked → Type 0 = λ x b. dequeue a.tables sessions a.actor x b.ask a.moment ≡ meant (effect_of b) b.ask.queue b.ask.consumer a.moment x in
+    let here : AreMarks s.at sessions a.marks = subst (λ (db : DbId). AreMarks db sessions a.marks) (sym is.at) are in
     let wakes : s ≡ waking s = ap (λ (p : Option ℕ). record s { parked = p }) (is.parked ∙ unparked) in
-    let awake = means-waking t sessions locks actor s ask moment here mine plain.navigation tables in
-    let asleep : dequeue t sessions actor s (plain_of ask) moment ≡ meant (effect_of t locks actor s.at s.positions (plain_of ask) moment) ask.queue None moment s =
-    subst (λ (x : Session). dequeue t sessions actor x (plain_of ask) moment ≡ meant (effect_of t locks actor s.at s.positions (plain_of ask) moment) ask.queue None moment x) (sym wakes) awake in
-    let asked : dequeue t sessions actor s ask moment ≡ meant (effect_of t locks actor s.at s.positions ask moment) ask.queue ask.consumer moment s =
-    subst (λ (x : Dequeue). dequeue t sessions actor s x moment ≡ meant (effect_of t locks actor s.at s.positions x moment) x.queue x.consumer moment s) (sym (is-plain ask plain)) asleep in
-    let placed : dequeue t sessions actor s ask moment ≡ meant (effect_of t locks actor state.at s.positions ask moment) ask.queue ask.consumer moment s =
-    subst (λ (x : DbId). dequeue t sessions actor s ask moment ≡ meant (effect_of t locks actor x s.positions ask moment) ask.queue ask.consumer moment s) is.at asked in
-    subst (λ (x : List Position). dequeue t sessions actor s ask moment ≡ meant (effect_of t locks actor state.at x ask moment) ask.queue ask.consumer moment s) is.positions placed
+    let awake = means-waking a.tables sessions a.marks a.actor s ask a.moment here mine plain.navigation tables in
+    let by : DbId → List Position → Dequeue → Asked = λ db ps form. record a { at = db; positions = ps; ask = form } in
+    let asleep : Means s (by s.at s.positions (plain_of ask)) = subst (λ (x : Session). Means x (by s.at s.positions (plain_of ask))) (sym wakes) awake in
+    let formed : Means s (by s.at s.positions ask) = subst (λ (x : Dequeue). Means s (by s.at s.positions x)) (sym (is-plain ask plain)) asleep in
+    let placed : Means s (by a.at s.positions ask) = subst (λ (x : DbId). Means s (by x s.positions ask)) (is.at ∙ sym at) formed in
+    subst (λ (x : List Position). Means s (by a.at x ask)) (is.positions ∙ sym positions) placed

@@ -5,8 +5,8 @@ use Rattle.std.specs.List.{list_any, enumerate_from}
 use Rattle.std.proofs.lemmas.Bool.{false≢true, or_cases, or_left, or_right, and_parts, and_from, not-true, not_from_false, ne_eqb, cases_eq, both_ways, false_from_ne_true}
 use Rattle.aq_base.specs.declared.DbId.{DbId}
 use Rattle.aq_base.specs.declared.DbId.TheVariants.{Home, Away}
-use Rattle.row_locks.specs.declared.mark.Mark.{Mark}
-use Rattle.row_locks.specs.Marks.{SessionMarks, no_marks, marks_of, is_on, has_slot, has_removed, IsFreeSlot, HasSlot, IsHolder, AreHeldOnce, IsFreeFor}
+use Rattle.slot_marks.specs.declared.mark.Mark.{Mark}
+use Rattle.slot_marks.specs.Marks.{SessionMarks, no_marks, marks_of, is_on, has_slot, has_removed, IsFreeSlot, HasSlot, IsHolder, AreHeldOnce, IsFreeFor}
 use Rattle.queue_rows.specs.Session as session
 use Rattle.queue_rows.specs.Session.{Session, is_same_db, holds, marks_slot, is_held_from}
 use Rattle.sessions.specs.States.{AreMarks}

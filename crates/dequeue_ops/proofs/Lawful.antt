@@ -3,8 +3,7 @@ use Rattle.std.proofs.Common.{◌≡◌, ℕ, List, [], Bool, true, false, Optio
 use Rattle.std.specs.Prelude.{◌&&◌, not, find, if◌then◌else◌}
 use Rattle.std.specs.Str.{bytes_eq}
 use Rattle.std.proofs.lemmas.Bool.{and_parts, not-true}
-use Rattle.aq_base.specs.declared.DbId.{DbId}
-use Rattle.row_locks.specs.Marks.{SessionMarks, IsFreeFor, marks_of, has_removed}
+use Rattle.slot_marks.specs.Marks.{SessionMarks, IsFreeFor, marks_of, has_removed}
 use Rattle.queue_rows.specs.Rows.{find_table, find_queue, slot_of}
 use Rattle.queue_rows.specs.Session.{is_position}
 use Rattle.queue_rows.specs.Turns.{ids_taken}
@@ -13,10 +12,8 @@ use Rattle.queue_rows.specs.declared.tables.Tables.{Tables}
 use Rattle.queue_rows.specs.declared.rows.TableRow.{TableRow}
 use Rattle.queue_rows.specs.declared.rows.QueueRow.{QueueRow}
 use Rattle.queue_rows.specs.declared.rows.MsgRow.{MsgRow}
-use Rattle.queue_rows.specs.declared.session.Position.{Position}
 use Rattle.queue_rows.specs.declared.reply.Reply.{Reply}
 use Rattle.queue_rows.specs.declared.reply.Reply.TheVariants as replies
-use Rattle.queue_rows.specs.declared.statement.Dequeue.{Dequeue}
 use Rattle.queue_rows.specs.declared.statement.Mode.{Mode}
 use Rattle.queue_rows.specs.declared.statement.Mode.TheVariants as modes
 use Rattle.queue_rows.specs.declared.statement.Visibility.{Visibility}
@@ -26,9 +23,10 @@ use Rattle.sessions.specs.Running.{is_addition}
 use Rattle.sessions.specs.declared.state.Effect.{Effect}
 use Rattle.sessions.specs.declared.state.PositionMove.{PositionMove}
 use Rattle.sessions.specs.declared.state.PositionMove.TheVariants as moves
-use Rattle.dequeue_ops.specs.Available.{own_slot, is_held, is_free, is_available, is_available_slot}
-use Rattle.dequeue_ops.specs.Chosen.{begin_of, chosen_behind}
-use Rattle.dequeue_ops.specs.Effects.{answering, refusing, move_of, message_reply, position_at, giving_in, effect_by, effect_in, effect_from, effect_of}
+use Rattle.dequeue_ops.specs.Available.{Criteria, own_slot, is_held, is_free, is_available, is_available_slot}
+use Rattle.dequeue_ops.specs.Chosen.{begin_of}
+use Rattle.dequeue_ops.specs.Effects.{Asked, answering, refusing, move_of, giving_in, delivery_of, chosen_in, effect_by, effect_in, effect_from, effect_of}
+use Rattle.dequeue_ops.specs.declared.effect.Delivery.{Delivery}
 use Rattle.dequeue_ops.proofs.Choosing.{chosen-available}
 use Rattle.dequeue_ops.proofs.Holding.{free_for}
 
@@ -45,7 +43,7 @@ module _ (locks : List SessionMarks) (actor : ℕ) where
   lawful-answering : (reply : Reply) (move : PositionMove) → ids_taken reply ≡ 0 → IsLawful locks actor (answering reply move)
   lawful-answering reply move none = record { answered = tt; no_id = none; removes = tt; later = tt; free = tt }
 
-  free_part : (mode : Mode) (queue : QueueRow) (m : MsgRow) → is_available locks actor mode queue m ≡ true → is_free locks actor mode m.id (own_slot queue) ≡ true
+  free_part : (mode : Mode) (queue : QueueRow) (m : MsgRow) → is_available (record { marks = locks; actor = actor; mode = mode; queue = queue }) m ≡ true → is_free locks actor mode m.id (own_slot queue) ≡ true
   free_part mode queue m e =
       let slot = own_slot queue in
       let at = (and_parts (bytes_eq m.queue queue.name) (is_available_slot locks actor mode m slot) e).1 in
@@ -54,34 +52,41 @@ module _ (locks : List SessionMarks) (actor : ℕ) where
   unheld : (id slot : ℕ) → not (is_held locks actor id slot) ≡ true → is_held locks actor id slot ≡ false
   unheld id slot e = not-true (is_held locks actor id slot) e
 
-  lawful-in : (mode : Mode) (visibility : Visibility) (t : Tables) (moment : ℕ) (reply : Reply) (move : PositionMove) (id slot : ℕ) → ids_taken reply ≡ 0 → is_free locks actor mode id slot ≡ true → IsLawful locks actor (giving_in mode visibility t moment reply move id slot)
-  lawful-in modes.Remove visibilities.Immediate t moment reply move id slot none free = record { answered = tt; no_id = none; removes = tt; later = tt; free = tt }
-  lawful-in modes.RemoveNodata visibilities.Immediate t moment reply move id slot none free = record { answered = tt; no_id = none; removes = tt; later = tt; free = tt }
-  lawful-in modes.Browse visibility t moment reply move id slot none free = lawful-answering reply move none
-  lawful-in modes.Locked visibilities.Immediate t moment reply move id slot none free = lawful-answering reply move none
-  lawful-in modes.Remove visibilities.OnCommit t moment reply move id slot none free = record { answered = tt; no_id = none; removes = refl; later = refl; free = free_for locks actor id slot true (unheld id slot free) }
-  lawful-in modes.RemoveNodata visibilities.OnCommit t moment reply move id slot none free = record { answered = tt; no_id = none; removes = refl; later = refl; free = free_for locks actor id slot true (unheld id slot free) }
-  lawful-in modes.Locked visibilities.OnCommit t moment reply move id slot none free = record { answered = tt; no_id = none; removes = tt; later = tt; free = free_for locks actor id slot false (unheld id slot free) }
+  lawful-in : (mode : Mode) (visibility : Visibility) (t : Tables) (moment : ℕ) (d : Delivery) → ids_taken d.reply ≡ 0 → is_free locks actor mode d.id d.slot ≡ true → IsLawful locks actor (giving_in mode visibility t moment d)
+  lawful-in modes.Remove visibilities.Immediate t moment d none free = record { answered = tt; no_id = none; removes = tt; later = tt; free = tt }
+  lawful-in modes.RemoveNodata visibilities.Immediate t moment d none free = record { answered = tt; no_id = none; removes = tt; later = tt; free = tt }
+  lawful-in modes.Browse visibility t moment d none free = lawful-answering d.reply d.position none
+  lawful-in modes.Locked visibilities.Immediate t moment d none free = lawful-answering d.reply d.position none
+  lawful-in modes.Remove visibilities.OnCommit t moment d none free = record { answered = tt; no_id = none; removes = refl; later = refl; free = free_for locks actor d.id d.slot true (unheld d.id d.slot free) }
+  lawful-in modes.RemoveNodata visibilities.OnCommit t moment d none free = record { answered = tt; no_id = none; removes = refl; later = refl; free = free_for locks actor d.id d.slot true (unheld d.id d.slot free) }
+  lawful-in modes.Locked visibilities.OnCommit t moment d none free = record { answered = tt; no_id = none; removes = tt; later = tt; free = free_for locks actor d.id d.slot false (unheld d.id d.slot free) }
 
-  module _ (t : Tables) (at : DbId) (positions : List Position) (ask : Dequeue) (moment : ℕ) where
-    lawful-by : (queue : QueueRow) (table : TableRow) (m : Option MsgRow) → IfSome m (λ m. is_available locks actor ask.mode queue m ≡ true) → IsLawful locks actor (effect_by t at queue table ask moment m)
-    lawful-by queue table None available = lawful-answering replies.NoMessage (move_of ask.navigation) refl
-    lawful-by queue table (Some m) available =
-        lawful-in ask.mode ask.visibility t moment (message_reply at ask.mode table m (own_slot queue)) (moves.Set (position_at ask.queue m)) m.id (own_slot queue) refl (free_part ask.mode queue m available)
+-- what is asked, by what the session may be given
+module _ (a : Asked) where
+  abbrev pub IsGood : Effect → Type 0
+  IsGood e = IsLawful a.marks a.actor e
 
-    lawful-typed : (queue : QueueRow) (table : Option TableRow) → IsLawful locks actor (effect_in t locks actor at positions queue table ask moment)
-    lawful-typed queue None = lawful-answering replies.NoQueue moves.Keep refl
-    lawful-typed queue (Some table) =
-        let begin = begin_of ask.navigation (find (is_position ask.queue None) positions) in
-        lawful-by queue table (chosen_behind locks actor ask.mode queue begin t.messages) (chosen-available locks actor ask.mode queue begin t.messages)
+  abbrev pub criteria_in : QueueRow → Criteria
+  criteria_in queue = record { marks = a.marks; actor = a.actor; mode = a.ask.mode; queue = queue }
 
-    by_test : (off : Bool) (e : Effect) → IsLawful locks actor e → IsLawful locks actor (if off then refusing replies.DequeueOff else e)
-    by_test true e lawful = lawful-answering replies.DequeueOff moves.Keep refl
-    by_test false e lawful = lawful
+  lawful-by : (queue : QueueRow) (table : TableRow) (m : Option MsgRow) → IfSome m (λ m. is_available (criteria_in queue) m ≡ true) → IsGood (effect_by a queue table m)
+  lawful-by queue table None available = lawful-answering a.marks a.actor replies.NoMessage (move_of a.ask.navigation) refl
+  lawful-by queue table (Some m) available =
+      lawful-in a.marks a.actor a.ask.mode a.ask.visibility a.tables a.moment (delivery_of a queue table m) refl (free_part a.marks a.actor a.ask.mode queue m available)
 
-    lawful-from : (queue : Option QueueRow) → IsLawful locks actor (effect_from t locks actor at positions queue ask moment)
-    lawful-from None = lawful-answering replies.NoQueue moves.Keep refl
-    lawful-from (Some queue) = by_test (not queue.dequeue) (effect_in t locks actor at positions queue (find_table t queue.table) ask moment) (lawful-typed queue (find_table t queue.table))
+  lawful-typed : (queue : QueueRow) (table : Option TableRow) → IsGood (effect_in a queue table)
+  lawful-typed queue None = lawful-answering a.marks a.actor replies.NoQueue moves.Keep refl
+  lawful-typed queue (Some table) =
+      let begin = begin_of a.ask.navigation (find (is_position a.ask.queue None) a.positions) in
+      lawful-by queue table (chosen_in a queue) (chosen-available (criteria_in queue) begin a.tables.messages)
 
-    pub lawful : IsLawful locks actor (effect_of t locks actor at positions ask moment)
-    lawful = lawful-from (find_queue t ask.queue)
+  by_test : (off : Bool) (e : Effect) → IsGood e → IsGood (if off then refusing replies.DequeueOff else e)
+  by_test true e lawful = lawful-answering a.marks a.actor replies.DequeueOff moves.Keep refl
+  by_test false e lawful = lawful
+
+  lawful-from : (queue : Option QueueRow) → IsGood (effect_from a queue)
+  lawful-from None = lawful-answering a.marks a.actor replies.NoQueue moves.Keep refl
+  lawful-from (Some queue) = by_test (not queue.dequeue) (effect_in a queue (find_table a.tables queue.table)) (lawful-typed queue (find_table a.tables queue.table))
+
+  pub lawful : IsLawful a.marks a.actor (effect_of a)
+  lawful = lawful-from (find_queue a.tables a.ask.queue)

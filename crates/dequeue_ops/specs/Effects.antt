@@ -1,8 +1,8 @@
 -- What a dequeue without a consumer does to its session.
 use Rattle.std.specs.Prelude.{ℕ, List, [], ◌∷◌, Bool, true, false, not, Option, Some, None, find, if◌then◌else◌}
 use Rattle.aq_base.specs.declared.DbId.{DbId}
-use Rattle.row_locks.specs.Marks.{SessionMarks}
-use Rattle.row_locks.specs.declared.mark.Mark.{Mark}
+use Rattle.slot_marks.specs.Marks.{SessionMarks}
+use Rattle.slot_marks.specs.declared.mark.Mark.{Mark}
 use Rattle.queue_rows.specs.Rows.{find_table, find_queue}
 use Rattle.queue_rows.specs.Commits.{commit_of}
 use Rattle.queue_rows.specs.Session.{is_position}
@@ -17,23 +17,48 @@ use Rattle.queue_rows.specs.declared.reply.Reply.{Reply}
 use Rattle.queue_rows.specs.declared.reply.Reply.TheVariants as replies
 use Rattle.queue_rows.specs.declared.statement.Dequeue.{Dequeue}
 use Rattle.queue_rows.specs.declared.statement.Mode.{Mode}
+use Rattle.queue_rows.specs.declared.statement.MsgId.{MsgId}
 use Rattle.queue_rows.specs.declared.statement.Mode.TheVariants as modes
 use Rattle.queue_rows.specs.declared.statement.Navigation.{Navigation}
 use Rattle.queue_rows.specs.declared.statement.Navigation.TheVariants as navigations
 use Rattle.queue_rows.specs.declared.statement.Visibility.{Visibility}
 use Rattle.queue_rows.specs.declared.statement.Visibility.TheVariants as visibilities
+use Rattle.sessions.specs.Effects.{plain_effect}
 use Rattle.sessions.specs.declared.state.Effect.{Effect}
 use Rattle.sessions.specs.declared.state.Verdict.TheVariants as verdicts
 use Rattle.sessions.specs.declared.state.PositionMove.{PositionMove}
 use Rattle.sessions.specs.declared.state.PositionMove.TheVariants as moves
-use Rattle.dequeue_ops.specs.Available.{own_slot}
+use Rattle.dequeue_ops.specs.Available.{Criteria, own_slot}
 use Rattle.dequeue_ops.specs.Chosen.{begin_of, chosen_behind}
+use Rattle.dequeue_ops.specs.declared.effect.Request.{Request}
+use Rattle.dequeue_ops.specs.declared.effect.Delivery.{Delivery}
+
+-- what a session asks: of which tables and marks, its number, database and positions, what it asks for, and when
+pub record Asked : Type 0 where
+  pub tables : Tables
+  pub marks : List SessionMarks
+  pub actor : ℕ
+  pub at : DbId
+  pub positions : List Position
+  pub ask : Dequeue
+  pub moment : ℕ
+
+abbrev pub asked : Request → Asked
+asked r = record {
+  tables = r.store.now;
+  marks = r.locks.now;
+  actor = r.actor;
+  at = r.session.now.at;
+  positions = r.session.now.positions;
+  ask = r.ask.now;
+  moment = r.moment;
+}
 
 -- ---- nothing is given
 
 -- it is answered, and nothing else happens but to where the session stands
 abbrev pub answering : Reply → PositionMove → Effect
-answering reply move = record { verdict = verdicts.Answer reply; commit = []; pend = None; mark = None; unmark = None; position = move }
+answering reply move = record (plain_effect (verdicts.Answer reply) []) { position = move }
 
 abbrev pub refusing : Reply → Effect
 refusing reply = answering reply moves.Keep
@@ -47,7 +72,9 @@ move_of navigations.NextTransaction = moves.Keep
 -- ---- a message is given
 
 abbrev pub message_reply : DbId → Mode → TableRow → MsgRow → ℕ → Reply
-message_reply at mode table m slot = replies.Message (record { db = at; number = m.id }) m.facts.priority (retries_of m slot) m.facts.corr (shown_in mode table m)
+message_reply at mode table m slot =
+    let id : MsgId = record { db = at; number = m.id } in
+    replies.Message id m.facts.priority (retries_of m slot) m.facts.corr (shown_in mode table m) m.facts.props
 
 abbrev pub position_at : List ℕ → MsgRow → Position
 position_at queue m = record { queue = queue; consumer = None; place = m.place; group = m.group }
@@ -55,43 +82,64 @@ position_at queue m = record { queue = queue; consumer = None; place = m.place; 
 abbrev pub mark_on : Bool → ℕ → ℕ → Mark
 mark_on removed id slot = record { id = id; slot = slot; removed = removed; group = None }
 
-abbrev pub locking : Reply → PositionMove → ℕ → ℕ → Effect
-locking reply move id slot = record (answering reply move) { mark = Some (mark_on false id slot) }
+-- it is answered, and the session stands there
+abbrev pub showing : Delivery → Effect
+showing d = answering d.reply d.position
 
-abbrev pub taking_later : Reply → PositionMove → ℕ → ℕ → Effect
-taking_later reply move id slot = record (answering reply move) { mark = Some (mark_on true id slot); pend = Some (Remove id slot) }
+abbrev pub locking : Delivery → Effect
+locking d = record (showing d) { mark = Some (mark_on false d.id d.slot) }
 
-abbrev pub taking_at_once : Tables → ℕ → Reply → PositionMove → ℕ → ℕ → Effect
-taking_at_once t moment reply move id slot = record (answering reply move) { commit = commit_of t moment (Remove id slot ∷ []); unmark = Some (mark_on true id slot) }
+abbrev pub taking_later : Delivery → Effect
+taking_later d = record (showing d) {
+  mark = Some (mark_on true d.id d.slot);
+  pend = Some (Remove d.id d.slot);
+}
 
-abbrev pub giving_in : Mode → Visibility → Tables → ℕ → Reply → PositionMove → ℕ → ℕ → Effect
-giving_in modes.Remove visibilities.Immediate t moment reply move id slot = taking_at_once t moment reply move id slot
-giving_in modes.RemoveNodata visibilities.Immediate t moment reply move id slot = taking_at_once t moment reply move id slot
-giving_in modes.Browse visibility t moment reply move id slot = answering reply move
-giving_in modes.Locked visibilities.Immediate t moment reply move id slot = answering reply move
-giving_in modes.Remove visibilities.OnCommit t moment reply move id slot = taking_later reply move id slot
-giving_in modes.RemoveNodata visibilities.OnCommit t moment reply move id slot = taking_later reply move id slot
-giving_in modes.Locked visibilities.OnCommit t moment reply move id slot = locking reply move id slot
+abbrev pub taking_at_once : Tables → ℕ → Delivery → Effect
+taking_at_once t moment d = record (showing d) {
+  commit = commit_of t moment (Remove d.id d.slot ∷ []);
+  unmark = Some (mark_on true d.id d.slot);
+}
 
-abbrev pub giving : Tables → DbId → QueueRow → TableRow → Dequeue → ℕ → MsgRow → Effect
-giving t at queue table ask moment m =
-    giving_in ask.mode ask.visibility t moment (message_reply at ask.mode table m (own_slot queue)) (moves.Set (position_at ask.queue m)) m.id (own_slot queue)
+abbrev pub giving_in : Mode → Visibility → Tables → ℕ → Delivery → Effect
+giving_in modes.Remove visibilities.Immediate t moment d = taking_at_once t moment d
+giving_in modes.RemoveNodata visibilities.Immediate t moment d = taking_at_once t moment d
+giving_in modes.Browse visibility t moment d = showing d
+giving_in modes.Locked visibilities.Immediate t moment d = showing d
+giving_in modes.Remove visibilities.OnCommit t moment d = taking_later d
+giving_in modes.RemoveNodata visibilities.OnCommit t moment d = taking_later d
+giving_in modes.Locked visibilities.OnCommit t moment d = locking d
+
+abbrev pub delivery_of : Asked → QueueRow → TableRow → MsgRow → Delivery
+delivery_of a queue table m = record {
+  reply = message_reply a.at a.ask.mode table m (own_slot queue);
+  position = moves.Set (position_at a.ask.queue m);
+  id = m.id;
+  slot = own_slot queue;
+}
 
 -- ---- a dequeue
 
-abbrev pub effect_by : Tables → DbId → QueueRow → TableRow → Dequeue → ℕ → Option MsgRow → Effect
-effect_by t at queue table ask moment None = answering replies.NoMessage (move_of ask.navigation)
-effect_by t at queue table ask moment (Some m) = giving t at queue table ask moment m
+abbrev pub effect_by : Asked → QueueRow → TableRow → Option MsgRow → Effect
+effect_by a queue table None = answering replies.NoMessage (move_of a.ask.navigation)
+effect_by a queue table (Some m) =
+    giving_in a.ask.mode a.ask.visibility a.tables a.moment (delivery_of a queue table m)
 
-abbrev pub effect_in : Tables → List SessionMarks → ℕ → DbId → List Position → QueueRow → Option TableRow → Dequeue → ℕ → Effect
-effect_in t locks actor at positions queue None ask moment = refusing replies.NoQueue
-effect_in t locks actor at positions queue (Some table) ask moment =
-    effect_by t at queue table ask moment (chosen_behind locks actor ask.mode queue (begin_of ask.navigation (find (is_position ask.queue None) positions)) t.messages)
+-- the message of the queue that is given
+abbrev pub chosen_in : Asked → QueueRow → Option MsgRow
+chosen_in a queue =
+    let from = begin_of a.ask.navigation (find (is_position a.ask.queue None) a.positions) in
+    let c : Criteria = record { marks = a.marks; actor = a.actor; mode = a.ask.mode; queue = queue } in
+    chosen_behind c from a.tables.messages
 
-abbrev pub effect_from : Tables → List SessionMarks → ℕ → DbId → List Position → Option QueueRow → Dequeue → ℕ → Effect
-effect_from t locks actor at positions None ask moment = refusing replies.NoQueue
-effect_from t locks actor at positions (Some queue) ask moment = if not queue.dequeue then refusing replies.DequeueOff
-    else effect_in t locks actor at positions queue (find_table t queue.table) ask moment
+abbrev pub effect_in : Asked → QueueRow → Option TableRow → Effect
+effect_in a queue None = refusing replies.NoQueue
+effect_in a queue (Some table) = effect_by a queue table (chosen_in a queue)
 
-abbrev pub effect_of : Tables → List SessionMarks → ℕ → DbId → List Position → Dequeue → ℕ → Effect
-effect_of t locks actor at positions ask moment = effect_from t locks actor at positions (find_queue t ask.queue) ask moment
+abbrev pub effect_from : Asked → Option QueueRow → Effect
+effect_from a None = refusing replies.NoQueue
+effect_from a (Some queue) = if not queue.dequeue then refusing replies.DequeueOff
+    else effect_in a queue (find_table a.tables queue.table)
+
+abbrev pub effect_of : Asked → Effect
+effect_of a = effect_from a (find_queue a.tables a.ask.queue)

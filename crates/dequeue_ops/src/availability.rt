@@ -1,11 +1,11 @@
 // Which messages a dequeue may give.
 ghost use Rattle.std.specs.Prelude.{◌≡◌, option_copied};
-ghost use Rattle.row_locks.specs.Marks.{marks_of};
+ghost use Rattle.slot_marks.specs.Marks.{marks_of};
 ghost use Rattle.queue_rows.specs.Settling.{is_ready};
 ghost use Rattle.queue_rows.specs.Dequeueing.{is_browse, is_ready_slot};
-ghost use Rattle.dequeue_ops.specs.Available.{own_slot, is_held, is_free, is_available_slot, is_available};
+ghost use Rattle.dequeue_ops.specs.Available.{criteria, own_slot, is_held, is_free, is_available_slot, is_available};
 
-use exception_queues::{is_exception, slot_of};
+use exception_queues::is_exception;
 use payload_records::Name;
 use queue_rows::{Mode, MsgRow, QueueRow, SlotRow, SlotState};
 use row_locks::RowLocks;
@@ -66,21 +66,33 @@ fn is_free(locks: &RowLocks, actor: u32, mode: Mode, message: &MsgRow, slot: u32
 fn is_available_slot(locks: &RowLocks, actor: u32, mode: Mode, message: &MsgRow, slot: u32) -> bool
     ensures { result ≡ is_available_slot locks.now actor mode message.now slot }
 {
-    is_ready_slot(slot_of(message, u64::from(slot)))
+    is_ready_slot(message.slot(u64::from(slot)))
         && !locks.removed(actor, message.id, slot)
         && is_free(locks, actor, mode, message, slot)
 }
 
-/// Whether a dequeue of the session of that number may give the message of the queue, in that mode.
-pub fn is_available(
-    locks: &RowLocks,
-    actor: u32,
-    mode: Mode,
-    queue: &QueueRow,
-    message: &MsgRow,
-) -> bool
-    ensures { result ≡ is_available locks.now actor mode queue.now message.now }
+/// By what a session is given messages: the marks, its number, the mode and the queue.
+#[derive(Clone, Copy)]
+pub struct Selection<'a> {
+    /// The marks of the sessions of its database.
+    pub locks: &'a RowLocks,
+    /// Its number.
+    pub actor: u32,
+    /// What is to become of the message.
+    pub mode: Mode,
+    /// The queue.
+    pub queue: &'a QueueRow,
+}
+
+/// Whether the session may be given the message.
+pub fn is_available(selection: Selection<'_>, message: &MsgRow) -> bool
+    ensures { result ≡ is_available (criteria selection.entry) message.now }
 {
-    message.queue.as_str() == queue.name.as_str()
-        && is_available_slot(locks, actor, mode, message, own_slot(queue))
+    let Selection {
+        locks,
+        actor,
+        mode,
+        queue,
+    } = selection;
+    message.queue == queue.name && is_available_slot(locks, actor, mode, message, own_slot(queue))
 }

@@ -1,20 +1,19 @@
 // Which message a dequeue gives.
-ghost use Rattle.std.specs.Prelude.{◌≡◌, Some, None, find, option_copied, if◌then◌else◌};
-ghost use Rattle.std.specs.Option.{option_or};
+ghost use Rattle.std.specs.Prelude.{◌≡◌, Some, None, find, option_copied};
 ghost use Rattle.queue_rows.specs.Session.{is_position};
-ghost use Rattle.queue_rows.specs.Dequeueing.{nearer, is_browse, is_past};
-ghost use Rattle.dequeue_ops.specs.Chosen.{is_behind, is_wanted, least_wanted, begin_of, chosen_behind};
+ghost use Rattle.queue_rows.specs.Dequeueing.{nearer, is_past};
+ghost use Rattle.dequeue_ops.specs.Available.{criteria};
+ghost use Rattle.dequeue_ops.specs.Chosen.{is_behind, is_wanted, least_wanted, begin_of, chosen_or_first, chosen_behind};
 
-use crate::availability::{is_available, is_browse};
+use crate::availability::{Selection, is_available, is_browse};
 use payload_records::{List, Name};
 use place_keys::compare;
-use queue_rows::{Mode, MsgRow, Navigation, Position, QueueRow};
-use row_locks::RowLocks;
+use queue_rows::{MsgRow, Navigation, Position};
 
 fn is_position(queue: &Name, position: &Position) -> bool
     ensures { result ≡ is_position queue.now None position.now }
 {
-    position.queue.as_str() == queue.as_str() && position.consumer.is_none()
+    position.queue == *queue && position.consumer.is_none()
 }
 
 fn position_in<'a>(positions: &'a List<Position>, queue: &Name) -> Option<&'a Position>
@@ -67,36 +66,23 @@ fn nearer<'a>(best: Option<&'a MsgRow>, message: &'a MsgRow) -> &'a MsgRow
     }
 }
 
-/// What a session may take: the marks, its number, the mode and the queue.
-#[derive(Clone, Copy)]
-pub struct Reach<'a> {
-    /// The marks of the sessions of its database.
-    pub locks: &'a RowLocks,
-    /// Its number.
-    pub actor: u32,
-    /// What is to become of the message.
-    pub mode: Mode,
-    /// The queue.
-    pub queue: &'a QueueRow,
-}
-
-fn is_wanted(reach: Reach<'_>, position: Option<&Position>, message: &MsgRow) -> bool
-    ensures { result ≡ is_wanted reach.entry.locks.now reach.entry.actor reach.entry.mode reach.entry.queue.now (option_copied position.entry) message.now }
+fn is_wanted(selection: Selection<'_>, position: Option<&Position>, message: &MsgRow) -> bool
+    ensures { result ≡ is_wanted (criteria selection.entry) (option_copied position.entry) message.now }
 {
-    is_available(reach.locks, reach.actor, reach.mode, reach.queue, message)
-        && is_behind(position, message)
+    is_available(selection, message) && is_behind(position, message)
 }
 
 fn least_wanted<'a>(
-    reach: Reach<'_>,
+    selection: Selection<'_>,
     position: Option<&Position>,
     messages: &'a List<MsgRow>,
 ) -> Option<&'a MsgRow>
-    ensures { option_copied result ≡ least_wanted reach.entry.locks.now reach.entry.actor reach.entry.mode reach.entry.queue.now (option_copied position.entry) messages.now }
+    ensures { option_copied result
+        ≡ least_wanted (criteria selection.entry) (option_copied position.entry) messages.now }
 {
     let mut best: Option<&MsgRow> = None;
     for message in messages {
-        if is_wanted(reach, position, message) {
+        if is_wanted(selection, position, message) {
             best = Some(nearer(best, message));
         }
     }
@@ -104,20 +90,21 @@ fn least_wanted<'a>(
 }
 
 // Where there is none behind the position, the search begins anew, unless it is only browsed.
-fn choose_behind<'a>(
-    reach: Reach<'_>,
+fn chosen_or_first<'a>(
+    selection: Selection<'_>,
     behind: Option<&'a MsgRow>,
     messages: &'a List<MsgRow>,
 ) -> Option<&'a MsgRow>
-    ensures { option_copied result ≡ (if is_browse reach.entry.mode then option_copied behind.entry else option_or (option_copied behind.entry) (least_wanted reach.entry.locks.now reach.entry.actor reach.entry.mode reach.entry.queue.now None messages.now)) }
+    ensures { option_copied result
+        ≡ chosen_or_first (criteria selection.entry) (option_copied behind.entry) messages.now }
 {
     match behind {
         Some(message) => Some(message),
         None => {
-            if is_browse(reach.mode) {
+            if is_browse(selection.mode) {
                 None
             } else {
-                least_wanted(reach, None, messages)
+                least_wanted(selection, None, messages)
             }
         }
     }
@@ -125,12 +112,13 @@ fn choose_behind<'a>(
 
 /// The message that a dequeue gives to a session that looks from there.
 pub fn choose<'a>(
-    reach: Reach<'_>,
+    selection: Selection<'_>,
     position: Option<&Position>,
     messages: &'a List<MsgRow>,
 ) -> Option<&'a MsgRow>
-    ensures { option_copied result ≡ chosen_behind reach.entry.locks.now reach.entry.actor reach.entry.mode reach.entry.queue.now (option_copied position.entry) messages.now }
+    ensures { option_copied result
+        ≡ chosen_behind (criteria selection.entry) (option_copied position.entry) messages.now }
 {
-    let behind = least_wanted(reach, position, messages);
-    choose_behind(reach, behind, messages)
+    let behind = least_wanted(selection, position, messages);
+    chosen_or_first(selection, behind, messages)
 }

@@ -1,7 +1,7 @@
 // What a dequeue is answered, and what it does.
 ghost use Rattle.std.specs.Prelude.{◌≡◌, ◌<◌, ◌≤◌, ◌^◌, ℕ, List as Sequence, [], ◌∷◌, Some, None, All, IfOk, IfSome, false, option_copied, slice_get};
-ghost use Rattle.row_locks.specs.Marks.{IsFreeFor};
-ghost use Rattle.queue_rows.specs.Built.{IsPlainDequeue};
+ghost use Rattle.slot_marks.specs.Marks.{IsFreeFor};
+ghost use Rattle.built_statements.specs.Built.{IsPlainDequeue};
 ghost use Rattle.queue_rows.specs.Commits.{commit_of};
 ghost use Rattle.queue_rows.specs.Dequeueing.{dequeue};
 ghost use Rattle.queue_rows.specs.Session.{Session};
@@ -11,10 +11,10 @@ ghost use Rattle.sessions.specs.Running.{is_addition};
 ghost use Rattle.sessions.specs.States.{AreMarks, IsStateOf};
 ghost use Rattle.sessions.specs.Within.{IsPlainTable, IsQueueWithin, IsWithin};
 ghost use Rattle.dequeue_ops.specs.Committing.{CanCommit, KeepsWithin};
-ghost use Rattle.dequeue_ops.specs.Effects.{answering, refusing, move_of, mark_on, locking, taking_later, taking_at_once, giving_in, giving, effect_by, effect_in, effect_from, effect_of};
+ghost use Rattle.dequeue_ops.specs.Effects.{asked, answering, showing, move_of, mark_on, locking, taking_later, taking_at_once, giving_in, delivery_of, effect_by, chosen_in, effect_in, effect_from, effect_of};
 
-use crate::availability::own_slot;
-use crate::choose::{Reach, begin_in, choose};
+use crate::availability::{Selection, own_slot};
+use crate::choose::{begin_in, choose};
 use crate::reply::{message_reply, position_at};
 use exception_queues::{find_queue, find_table};
 use message_store::Store;
@@ -22,13 +22,14 @@ use payload_records::List;
 use queue_rows::{
     Change, Dequeue, Mode, MsgRow, Navigation, Pending, QueueRow, Reply, TableRow, Visibility,
 };
-use row_locks::{Mark, RowLocks};
+use row_locks::RowLocks;
 use sessions::{Effect, PositionMove, SessionState, Verdict, changes_of};
+use slot_marks::Mark;
 use std::alloc::{AllocError, Global};
 
-// What a dequeue looks at.
+// What a dequeue is asked in.
 #[derive(Clone, Copy)]
-struct Look<'a> {
+struct Request<'a> {
     alloc: Global,
     store: &'a Store,
     locks: &'a RowLocks,
@@ -38,25 +39,23 @@ struct Look<'a> {
     moment: u64,
 }
 
+// A message that is given: the reply, where the session then stands, and the slot.
+#[derive(Drop)]
+struct Delivery {
+    reply: Reply,
+    position: PositionMove,
+    id: u64,
+    slot: u32,
+}
+
 // ---- nothing is given
 
 fn answering(alloc: Global, reply: Reply, position: PositionMove) -> Effect
     ensures { result ≡ answering reply position }
 {
-    Effect {
-        verdict: Verdict::Answer(reply),
-        commit: List::new(alloc),
-        pend: None,
-        mark: None,
-        unmark: None,
-        position,
-    }
-}
-
-fn refusing(alloc: Global, reply: Reply) -> Effect
-    ensures { result ≡ refusing reply }
-{
-    answering(alloc, reply, PositionMove::Keep)
+    let mut effect = Effect::answered(alloc, reply);
+    effect.position = position;
+    effect
 }
 
 // A session that looked from the beginning stands nowhere any more.
@@ -82,38 +81,37 @@ fn mark_on(removed: bool, id: u64, slot: u32) -> Mark
     }
 }
 
-fn locking(alloc: Global, reply: Reply, position: PositionMove, id: u64, slot: u32) -> Effect
-    ensures { result ≡ locking reply position id slot }
+fn showing(alloc: Global, delivery: Delivery) -> Effect
+    ensures { result ≡ showing delivery }
 {
-    Effect {
-        verdict: Verdict::Answer(reply),
-        commit: List::new(alloc),
-        pend: None,
-        mark: Some(mark_on(false, id, slot)),
-        unmark: None,
-        position,
-    }
+    answering(alloc, delivery.reply, delivery.position)
 }
 
-fn taking_later(alloc: Global, reply: Reply, position: PositionMove, id: u64, slot: u32) -> Effect
-    ensures { result ≡ taking_later reply position id slot }
+fn locking(alloc: Global, delivery: Delivery) -> Effect
+    ensures { result ≡ locking delivery }
 {
-    Effect {
-        verdict: Verdict::Answer(reply),
-        commit: List::new(alloc),
-        pend: Some(Pending::Remove { id, slot }),
-        mark: Some(mark_on(true, id, slot)),
-        unmark: None,
-        position,
-    }
+    let mark = mark_on(false, delivery.id, delivery.slot);
+    let mut effect = showing(alloc, delivery);
+    effect.mark = Some(mark);
+    effect
+}
+
+fn taking_later(alloc: Global, delivery: Delivery) -> Effect
+    ensures { result ≡ taking_later delivery }
+{
+    let (id, slot) = (delivery.id, delivery.slot);
+    let mut effect = showing(alloc, delivery);
+    effect.mark = Some(mark_on(true, id, slot));
+    effect.pend = Some(Pending::Remove { id, slot });
+    effect
 }
 
 fn removal_alone(alloc: Global, id: u64, slot: u32) -> Result<List<Pending>, AllocError>
     ensures { IfOk result (λ pending. pending ≡ Remove id slot ∷ []) }
 {
-    let mut pending = List::new(alloc);
+    let mut pending = Vec::with_capacity(alloc, 1)?;
     pending.push(Pending::Remove { id, slot })?;
-    Ok(pending)
+    Ok(List::from_vec(pending))
 }
 
 fn removal(
@@ -131,143 +129,136 @@ fn removal(
     changes_of(store, &pending, moment)
 }
 
-fn taking_at_once(
-    look: Look<'_>,
-    reply: Reply,
-    position: PositionMove,
-    id: u64,
-    slot: u32,
-) -> Result<Effect, AllocError>
-    requires { CanCommit look.store.now look.moment }
-    ensures is { IfOk result (λ e. e ≡ taking_at_once look.entry.store.now look.entry.moment reply position id slot) }
+fn taking_at_once(request: Request<'_>, delivery: Delivery) -> Result<Effect, AllocError>
+    requires { CanCommit request.store.now request.moment }
+    ensures is { IfOk result
+        (λ e. e ≡ taking_at_once request.entry.store.now request.entry.moment delivery) }
     ensures within { IfOk result KeepsWithin }
 {
-    let commit = removal(look.alloc, look.store, look.moment, id, slot)?;
-    Ok(Effect {
-        verdict: Verdict::Answer(reply),
-        commit,
-        pend: None,
-        mark: None,
-        unmark: Some(mark_on(true, id, slot)),
-        position,
-    })
+    let (id, slot) = (delivery.id, delivery.slot);
+    let commit = removal(request.alloc, request.store, request.moment, id, slot)?;
+    let mut effect = showing(request.alloc, delivery);
+    effect.commit = commit;
+    effect.unmark = Some(mark_on(true, id, slot));
+    Ok(effect)
 }
 
-fn giving_in(
-    look: Look<'_>,
-    reply: Reply,
-    position: PositionMove,
-    id: u64,
-    slot: u32,
-) -> Result<Effect, AllocError>
-    requires { CanCommit look.store.now look.moment }
-    ensures is { IfOk result (λ e. e ≡ giving_in look.entry.ask.now.mode look.entry.ask.now.visibility look.entry.store.now look.entry.moment reply position id slot) }
+fn giving_in(request: Request<'_>, delivery: Delivery) -> Result<Effect, AllocError>
+    requires { CanCommit request.store.now request.moment }
+    ensures is { let a = asked request.entry in
+        IfOk result (λ e. e ≡ giving_in a.ask.mode a.ask.visibility a.tables a.moment delivery) }
     ensures within { IfOk result KeepsWithin }
 {
-    match (look.ask.mode, look.ask.visibility) {
+    match (request.ask.mode, request.ask.visibility) {
         (Mode::Browse, _) | (Mode::Locked, Visibility::Immediate) => {
-            Ok(answering(look.alloc, reply, position))
+            Ok(showing(request.alloc, delivery))
         }
-        (Mode::Locked, Visibility::OnCommit) => Ok(locking(look.alloc, reply, position, id, slot)),
+        (Mode::Locked, Visibility::OnCommit) => Ok(locking(request.alloc, delivery)),
         (Mode::Remove | Mode::RemoveNodata, Visibility::Immediate) => {
-            taking_at_once(look, reply, position, id, slot)
+            taking_at_once(request, delivery)
         }
         (Mode::Remove | Mode::RemoveNodata, Visibility::OnCommit) => {
-            Ok(taking_later(look.alloc, reply, position, id, slot))
+            Ok(taking_later(request.alloc, delivery))
         }
     }
 }
 
-fn giving(
-    look: Look<'_>,
+fn delivery_of(
+    request: Request<'_>,
     queue: &QueueRow,
     table: &TableRow,
     message: &MsgRow,
-) -> Result<Effect, AllocError>
-    requires { CanCommit look.store.now look.moment }
-    ensures is { IfOk result (λ e. e ≡ giving look.entry.store.now look.entry.session.now.at queue.now table.now look.entry.ask.now look.entry.moment message.now) }
-    ensures within { IfOk result KeepsWithin }
+) -> Result<Delivery, AllocError>
+    ensures { IfOk result (λ d. d ≡ delivery_of (asked request.entry) queue.now table.now message.now) }
 {
     let slot = own_slot(queue);
-    let reply = message_reply(look.session.at, look.ask.mode, table, message, slot)?;
-    let position = PositionMove::Set(position_at(&look.ask.queue, message)?);
-    giving_in(look, reply, position, message.id, slot)
+    Ok(Delivery {
+        reply: message_reply(request.session.at, request.ask.mode, table, message, slot)?,
+        position: PositionMove::Set(position_at(&request.ask.queue, message)?),
+        id: message.id,
+        slot,
+    })
 }
 
 // ---- a dequeue
 
 fn effect_by(
-    look: Look<'_>,
+    request: Request<'_>,
     queue: &QueueRow,
     table: &TableRow,
     message: Option<&MsgRow>,
 ) -> Result<Effect, AllocError>
-    requires { CanCommit look.store.now look.moment }
-    ensures is { IfOk result (λ e. e ≡ effect_by look.entry.store.now look.entry.session.now.at queue.now table.now look.entry.ask.now look.entry.moment (option_copied message.entry)) }
+    requires { CanCommit request.store.now request.moment }
+    ensures is { IfOk result
+        (λ e. e ≡ effect_by (asked request.entry) queue.now table.now (option_copied message.entry)) }
     ensures within { IfOk result KeepsWithin }
 {
     match message {
-        Some(message) => giving(look, queue, table, message),
+        Some(message) => giving_in(request, delivery_of(request, queue, table, message)?),
         None => {
-            let position = move_of(look.ask.navigation);
-            Ok(answering(look.alloc, Reply::NoMessage, position))
+            let position = move_of(request.ask.navigation);
+            Ok(answering(request.alloc, Reply::NoMessage, position))
         }
     }
 }
 
+fn chosen_in<'a>(request: Request<'a>, queue: &QueueRow) -> Option<&'a MsgRow>
+    ensures { option_copied result ≡ chosen_in (asked request.entry) queue.now }
+{
+    let selection = Selection {
+        locks: request.locks,
+        actor: request.actor,
+        mode: request.ask.mode,
+        queue,
+    };
+    let positions = &request.session.positions;
+    let begin = begin_in(request.ask.navigation, positions, &request.ask.queue);
+    choose(selection, begin, &request.store.tables().messages)
+}
+
 fn effect_in(
-    look: Look<'_>,
+    request: Request<'_>,
     queue: &QueueRow,
     table: Option<&TableRow>,
 ) -> Result<Effect, AllocError>
-    requires { CanCommit look.store.now look.moment }
-    ensures is { IfOk result (λ e. e ≡ effect_in look.entry.store.now look.entry.locks.now look.entry.actor look.entry.session.now.at look.entry.session.now.positions queue.now (option_copied table.entry) look.entry.ask.now look.entry.moment) }
+    requires { CanCommit request.store.now request.moment }
+    ensures is { IfOk result
+        (λ e. e ≡ effect_in (asked request.entry) queue.now (option_copied table.entry)) }
     ensures within { IfOk result KeepsWithin }
 {
-    let Some(table) = table else {
-        return Ok(refusing(look.alloc, Reply::NoQueue));
-    };
-    let reach = Reach {
-        locks: look.locks,
-        actor: look.actor,
-        mode: look.ask.mode,
-        queue,
-    };
-    let positions = &look.session.positions;
-    let begin = begin_in(look.ask.navigation, positions, &look.ask.queue);
-    effect_by(
-        look,
-        queue,
-        table,
-        choose(reach, begin, &look.store.tables().messages),
-    )
+    match table {
+        Some(table) => effect_by(request, queue, table, chosen_in(request, queue)),
+        None => Ok(Effect::answered(request.alloc, Reply::NoQueue)),
+    }
 }
 
-fn effect_from(look: Look<'_>, queue: Option<&QueueRow>) -> Result<Effect, AllocError>
-    requires { CanCommit look.store.now look.moment }
-    ensures is { IfOk result (λ e. e ≡ effect_from look.entry.store.now look.entry.locks.now look.entry.actor look.entry.session.now.at look.entry.session.now.positions (option_copied queue.entry) look.entry.ask.now look.entry.moment) }
+fn effect_from(request: Request<'_>, queue: Option<&QueueRow>) -> Result<Effect, AllocError>
+    requires { CanCommit request.store.now request.moment }
+    ensures is { IfOk result
+        (λ e. e ≡ effect_from (asked request.entry) (option_copied queue.entry)) }
     ensures within { IfOk result KeepsWithin }
 {
     let Some(queue) = queue else {
-        return Ok(refusing(look.alloc, Reply::NoQueue));
+        return Ok(Effect::answered(request.alloc, Reply::NoQueue));
     };
     if !queue.dequeue {
-        return Ok(refusing(look.alloc, Reply::DequeueOff));
+        return Ok(Effect::answered(request.alloc, Reply::DequeueOff));
     }
-    let table = find_table(look.store.tables(), &queue.table);
-    effect_in(look, queue, table)
+    let table = find_table(request.store.tables(), &queue.table);
+    effect_in(request, queue, table)
 }
 
-fn effect_of(look: Look<'_>) -> Result<Effect, AllocError>
-    requires { CanCommit look.store.now look.moment }
-    ensures is { IfOk result (λ e. e ≡ effect_of look.entry.store.now look.entry.locks.now look.entry.actor look.entry.session.now.at look.entry.session.now.positions look.entry.ask.now look.entry.moment) }
+fn effect_of(request: Request<'_>) -> Result<Effect, AllocError>
+    requires { CanCommit request.store.now request.moment }
+    ensures is { IfOk result (λ e. e ≡ effect_of (asked request.entry)) }
     ensures within { IfOk result KeepsWithin }
 {
-    let queue = find_queue(look.store.tables(), &look.ask.queue);
-    effect_from(look, queue)
+    let queue = find_queue(request.store.tables(), &request.ask.queue);
+    effect_from(request, queue)
 }
 
-/// What a dequeue of the session of that number does, where the locks keep the marks of the sessions of its database.
+/// What a dequeue of the session of that number does, where the locks keep the marks of the sessions of its
+/// database.
 pub fn dequeue(
     alloc: Global,
     store: &Store,
@@ -283,8 +274,11 @@ pub fn dequeue(
     requires transaction { store.now.transaction < 2 ^ 62 }
     requires moment { moment ≤ 2 ^ 62 }
     requires unparked { session.now.parked ≡ None }
-    ensures means { IfOk result (λ e. (sessions : Sequence Session) (s : Session) → AreMarks session.now.at sessions locks.now → slice_get sessions actor ≡ Some s → IsStateOf session.now s
-        → dequeue store.now sessions actor s ask.now moment ≡ meant e ask.now.queue ask.now.consumer moment s) }
+    ensures means { IfOk result (λ e. (sessions : Sequence Session) (s : Session)
+        → AreMarks session.now.at sessions locks.now → slice_get sessions actor ≡ Some s
+        → IsStateOf session.now s
+        → dequeue store.now sessions actor s ask.now moment
+        ≡ meant e ask.now.queue ask.now.consumer moment s) }
     ensures answered { IfOk result (λ e. IsAnswered e.verdict) }
     ensures no_id { IfOk result (λ e. ids_of e.verdict ≡ 0) }
     ensures within { IfOk result (λ e. (n g r : ℕ) → All (IsWithin n g r) e.commit) }
@@ -292,7 +286,7 @@ pub fn dequeue(
     ensures later { IfOk result (λ e. IfSome e.pend (λ p. e.commit ≡ [])) }
     ensures free { IfOk result (λ e. IfSome e.mark (IsFreeFor locks.now actor)) }
 {
-    let look = Look {
+    let request = Request {
         alloc,
         store,
         locks,
@@ -301,5 +295,5 @@ pub fn dequeue(
         ask,
         moment,
     };
-    effect_of(look)
+    effect_of(request)
 }

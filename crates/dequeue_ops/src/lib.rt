@@ -7,6 +7,3 @@ mod effect;
 mod reply;
 
 pub use effect::dequeue;
-
-#[cfg(test)]
-mod tests;

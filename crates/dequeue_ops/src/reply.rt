@@ -4,7 +4,6 @@ ghost use Rattle.queue_rows.specs.Dequeueing.{retries_of, shown_in};
 ghost use Rattle.dequeue_ops.specs.Effects.{message_reply, position_at};
 
 use aq_base::DbId;
-use exception_queues::slot_of;
 use payload_records::{Copied, Name};
 use queue_rows::{Mode, MsgId, MsgRow, Position, Reply, Shown, TableRow};
 use std::alloc::AllocError;
@@ -12,7 +11,7 @@ use std::alloc::AllocError;
 fn retries_of(message: &MsgRow, slot: u32) -> u64
     ensures { result ≡ retries_of message.now slot }
 {
-    match slot_of(message, u64::from(slot)) {
+    match message.slot(u64::from(slot)) {
         Some(slot) => slot.retries,
         None => 0,
     }
@@ -49,6 +48,7 @@ pub fn message_reply(
         retries: retries_of(message, slot),
         corr: Copied::copied(&message.facts.corr)?,
         payload: shown_in(mode, table, message)?,
+        props: message.facts.props.copied()?,
     })
 }
 

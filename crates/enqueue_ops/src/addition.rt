@@ -1,13 +1,15 @@
 // The message that an enqueue adds.
 ghost use Rattle.std.specs.Prelude.{◌≡◌, ◌+◌, ◌<◌, ◌≤◌, ◌^◌, ◌∷◌, [], map, pos, None, IfOk};
-ghost use Rattle.queue_rows.specs.Built.{IsPlainEnqueue};
+ghost use Rattle.built_statements.specs.Built.{IsPlainEnqueue};
 ghost use Rattle.queue_rows.specs.Commits.{column_value, place_of};
 ghost use Rattle.queue_rows.specs.Enqueueing.{new_slot, lane_until_commit, addition};
+ghost use Rattle.queue_rows.specs.Recipients.{nameless};
 
 use payload_records::{Copied, List, Record};
 use place_keys::{Column, Place, SortList};
 use queue_rows::{Enqueue, MsgRow, SlotRow, SlotState, TableRow};
 use rule_conditions::Facts;
+use smallvec::SmallVec;
 use std::alloc::{AllocError, Global};
 
 /// The number that a message gets, and the moment at which it is put in.
@@ -34,11 +36,11 @@ fn column_values(
     sort: &SortList,
     priority: i64,
     moment: u64,
-) -> Result<Vec<i64>, AllocError>
+) -> Result<SmallVec<i64, 2>, AllocError>
     requires { moment ≤ 2 ^ 62 }
     ensures { IfOk result (λ values. values.items ≡ map (column_value priority moment moment) sort.now) }
 {
-    let mut values = Vec::new(alloc);
+    let mut values = SmallVec::new(alloc);
     for column in sort.columns() {
         values.push(column_value(priority, moment, *column))?;
     }
@@ -54,7 +56,8 @@ fn place_of(
 ) -> Result<Place, AllocError>
     requires id { stamp.id < 2 ^ 61 }
     requires moment { stamp.moment ≤ 2 ^ 62 }
-    ensures { IfOk result (λ place. place ≡ place_of (pos 0) table.now.columns priority stamp.moment stamp.moment stamp.id) }
+    ensures { IfOk result (λ place. place
+        ≡ place_of (pos 0) table.now.columns priority stamp.moment stamp.moment stamp.id) }
 {
     let values = column_values(alloc, &table.columns, priority, stamp.moment)?;
     Place::of(alloc, 0, values.as_slice(), stamp.id)
@@ -63,9 +66,9 @@ fn place_of(
 /// The one slot, which waits for the moment of its commit.
 fn new_slots(alloc: Global, ask: &Enqueue, moment: u64) -> Result<List<SlotRow>, AllocError>
     requires plain { IsPlainEnqueue ask.now }
-    ensures { IfOk result (λ slots. slots ≡ new_slot ask.now moment ∷ []) }
+    ensures { IfOk result (λ slots. slots ≡ new_slot ask.now moment nameless ∷ []) }
 {
-    let mut slots = List::new(alloc);
+    let mut slots = Vec::with_capacity(alloc, 1)?;
     slots.push(SlotRow {
         name: None,
         address: None,
@@ -74,7 +77,7 @@ fn new_slots(alloc: Global, ask: &Enqueue, moment: u64) -> Result<List<SlotRow>,
         at: moment,
         expires: None,
     })?;
-    Ok(slots)
+    Ok(List::from_vec(slots))
 }
 
 /// The message that an enqueue adds, with these cells.
@@ -88,7 +91,8 @@ pub fn addition(
     requires plain { IsPlainEnqueue ask.now }
     requires id { stamp.id < 2 ^ 61 }
     requires moment { stamp.moment ≤ 2 ^ 62 }
-    ensures { IfOk result (λ m. m ≡ addition table.now ask.now cells stamp.id stamp.moment) }
+    ensures { IfOk result (λ m. m
+        ≡ addition table.now ask.now cells (nameless ∷ []) None stamp.id stamp.moment) }
 {
     Ok(MsgRow {
         id: stamp.id,
@@ -98,6 +102,7 @@ pub fn addition(
             priority: ask.priority,
             corr: Copied::copied(&ask.corr)?,
             cells,
+            props: ask.props.copied()?,
         },
         exception: None,
         enq: stamp.moment,

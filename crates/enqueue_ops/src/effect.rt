@@ -1,43 +1,29 @@
 // What an enqueue is answered.
-ghost use Rattle.std.specs.Prelude.{◌≡◌, ◌<◌, ◌≤◌, ◌+◌, ◌^◌, ℕ, List as Sequence, [], Option as Choice, None, Ok, All, IfOk, IfSome};
+ghost use Rattle.std.specs.Prelude.{◌≡◌, ◌<◌, ◌≤◌, ◌+◌, ◌^◌, ℕ, List as Sequence, [], ◌∷◌, Option as Choice, None, Ok, All, IfOk, IfSome};
 ghost use Rattle.payload_records.specs.Record.{record_of};
-ghost use Rattle.queue_rows.specs.Built.{IsPlainEnqueue};
+ghost use Rattle.built_statements.specs.Built.{IsPlainEnqueue};
 ghost use Rattle.queue_rows.specs.Enqueueing.{enqueue, add, enqueue_cells};
 ghost use Rattle.queue_rows.specs.Meaning.{refused};
 ghost use Rattle.queue_rows.specs.Session.{Session};
 ghost use Rattle.queue_rows.specs.Turns.{ids_taken};
 ghost use Rattle.sessions.specs.Effects.{meant, IsAnswered, ids_of};
-ghost use Rattle.sessions.specs.declared.state.Verdict.TheVariants.{Answer};
-ghost use Rattle.sessions.specs.declared.state.PositionMove.TheVariants.{Keep};
 ghost use Rattle.sessions.specs.States.{IsStateOf};
 ghost use Rattle.sessions.specs.Within.{IsPlainTable, IsQueueWithin, IsWithin, IsNewAddition, AddsNew};
+ghost use Rattle.enqueue_ops.specs.Enqueued.{MeansFor, CommitsWithin};
 
 use crate::addition::{Stamp, addition};
 use aq_base::{DbId, NEXT_LIMIT};
 use exception_queues::{find_queue, find_table, is_exception};
 use message_store::Store;
 use payload_records::{List, PayloadFault, Record};
-use queue_rows::{Change, Enqueue, LimitName, MsgId, MsgRow, Pending, Reply, TableRow, Visibility};
-use sessions::{Effect, PositionMove, SessionState, Verdict, changes_of};
+use queue_rows::{Enqueue, LimitName, MsgId, MsgRow, Pending, Reply, TableRow, Visibility};
+use sessions::{Effect, SessionState, Verdict, changes_of};
 use std::alloc::{AllocError, Global};
-
-/// A reply with nothing but what is committed and what is kept until the session commits.
-fn effect(reply: Reply, commit: List<Change>, pend: Option<Pending>) -> Effect
-    ensures { result ≡ record { verdict = Answer reply; commit = commit; pend = pend; mark = None; unmark = None; position = Keep } }
-{
-    Effect {
-        verdict: Verdict::Answer(reply),
-        commit,
-        pend,
-        mark: None,
-        unmark: None,
-        position: PositionMove::Keep,
-    }
-}
 
 fn refused(alloc: Global, reply: Reply) -> Effect
     requires { ids_taken reply ≡ 0 }
-    ensures means { (s : Session) (queue : Sequence ℕ) (consumer : Choice (Sequence ℕ)) (moment : ℕ) → refused s reply ≡ meant result queue consumer moment s }
+    ensures means { (s : Session) (queue : Sequence ℕ) (consumer : Choice (Sequence ℕ)) (moment : ℕ)
+        → refused s reply ≡ meant result queue consumer moment s }
     ensures answered { IsAnswered result.verdict }
     ensures ids { ids_of result.verdict ≡ 0 }
     ensures commit { result.commit ≡ [] }
@@ -45,7 +31,15 @@ fn refused(alloc: Global, reply: Reply) -> Effect
     ensures pend { result.pend ≡ None }
     ensures mark { result.mark ≡ None }
 {
-    effect(reply, List::new(alloc), None)
+    Effect::answered(alloc, reply)
+}
+
+fn alone(alloc: Global, pending: Pending) -> Result<List<Pending>, AllocError>
+    ensures { IfOk result (λ list. list ≡ pending ∷ []) }
+{
+    let mut list = Vec::with_capacity(alloc, 1)?;
+    list.push(pending)?;
+    Ok(List::from_vec(list))
 }
 
 /// The message is added as a transaction of its own, or kept with the session until it commits.
@@ -62,10 +56,12 @@ fn add(
     requires queues { All IsQueueWithin store.now.queues }
     requires transaction { store.now.transaction ≤ message.id }
     requires moment { moment ≤ 2 ^ 62 }
-    ensures means { IfOk result (λ e. (s : Session) → s.at ≡ at → (queue : Sequence ℕ) (consumer : Choice (Sequence ℕ)) → add visibility store.now s message moment ≡ meant e queue consumer moment s) }
+    ensures means { IfOk result
+        (MeansFor (λ s. s.at ≡ at) (λ s. add visibility store.now s message moment) moment) }
     ensures answered { IfOk result (λ e. IsAnswered e.verdict) }
     ensures one { IfOk result (λ e. ids_of e.verdict ≡ 1) }
-    ensures within { IfOk result (λ e. (r : ℕ) → All (IsWithin (message.id + 1) (store.now.transaction + 1) r) e.commit) }
+    ensures within { IfOk result
+        (λ e. (r : ℕ) → All (IsWithin (message.id + 1) (store.now.transaction + 1) r) e.commit) }
     ensures adds { IfOk result (λ e. IfSome e.pend (AddsNew message.id)) }
     ensures later { IfOk result (λ e. IfSome e.pend (λ p. e.commit ≡ [])) }
     ensures unmarked { IfOk result (λ e. e.mark ≡ None) }
@@ -75,16 +71,21 @@ fn add(
         number: message.id,
     });
     match visibility {
-        Visibility::OnCommit => Ok(effect(reply, List::new(alloc), Some(Pending::Add(message)))),
+        Visibility::OnCommit => {
+            let mut effect = Effect::answered(alloc, reply);
+            effect.pend = Some(Pending::Add(message));
+            Ok(effect)
+        }
         Visibility::Immediate => {
-            let mut pending = List::new(alloc);
-            pending.push(Pending::Add(message))?;
-            Ok(effect(reply, changes_of(store, &pending, moment)?, None))
+            let pending = alone(alloc, Pending::Add(message))?;
+            let commit = changes_of(store, &pending, moment)?;
+            Ok(Effect::plain(Verdict::Answer(reply), commit))
         }
     }
 }
 
 /// Where the record is read: the message is added, if an id is left for it.
+#[tactic(auto, unfolding(queue_rows::specs::Recipients::recipients))]
 fn add_read(
     alloc: Global,
     store: &Store,
@@ -100,12 +101,13 @@ fn add_read(
     requires transaction { store.now.transaction ≤ stamp.id }
     requires id { stamp.id ≤ 2 ^ 61 }
     requires moment { stamp.moment ≤ 2 ^ 62 }
-    ensures means { IfOk result (λ e. (s : Session) → s.at ≡ at → (queue : Sequence ℕ) (consumer : Choice (Sequence ℕ))
-        → enqueue_cells store.now s table.now ask.now (Ok cells) stamp.id stamp.moment ≡ meant e queue consumer stamp.moment s) }
+    ensures means { IfOk result (MeansFor (λ s. s.at ≡ at)
+        (λ s. enqueue_cells store.now s table.now ask.now (Ok cells) stamp.id stamp.moment)
+        stamp.moment) }
     ensures answered { IfOk result (λ e. IsAnswered e.verdict) }
     ensures one { IfOk result (λ e. ids_of e.verdict ≤ 1) }
     ensures limit { IfOk result (λ e. stamp.id + ids_of e.verdict ≤ 2 ^ 61) }
-    ensures within { IfOk result (λ e. (r : ℕ) → All (IsWithin (stamp.id + ids_of e.verdict) (store.now.transaction + ids_of e.verdict) r) e.commit) }
+    ensures within { IfOk result (CommitsWithin stamp.id store.now.transaction) }
     ensures adds { IfOk result (λ e. IfSome e.pend (AddsNew stamp.id)) }
     ensures later { IfOk result (λ e. IfSome e.pend (λ p. (e.commit ≡ []) × (ids_of e.verdict ≡ 1))) }
     ensures unmarked { IfOk result (λ e. e.mark ≡ None) }
@@ -132,12 +134,14 @@ fn read_and_add(
     requires transaction { store.now.transaction ≤ stamp.id }
     requires id { stamp.id ≤ 2 ^ 61 }
     requires moment { stamp.moment ≤ 2 ^ 62 }
-    ensures means { IfOk result (λ e. (s : Session) → s.at ≡ at → (queue : Sequence ℕ) (consumer : Choice (Sequence ℕ))
-        → enqueue_cells store.now s table.now ask.now (record_of table.now.fields ask.now.payload) stamp.id stamp.moment ≡ meant e queue consumer stamp.moment s) }
+    ensures means { IfOk result (MeansFor (λ s. s.at ≡ at)
+        (λ s. let cells = record_of table.now.fields ask.now.payload in
+        enqueue_cells store.now s table.now ask.now cells stamp.id stamp.moment)
+        stamp.moment) }
     ensures answered { IfOk result (λ e. IsAnswered e.verdict) }
     ensures one { IfOk result (λ e. ids_of e.verdict ≤ 1) }
     ensures limit { IfOk result (λ e. stamp.id + ids_of e.verdict ≤ 2 ^ 61) }
-    ensures within { IfOk result (λ e. (r : ℕ) → All (IsWithin (stamp.id + ids_of e.verdict) (store.now.transaction + ids_of e.verdict) r) e.commit) }
+    ensures within { IfOk result (CommitsWithin stamp.id store.now.transaction) }
     ensures adds { IfOk result (λ e. IfSome e.pend (AddsNew stamp.id)) }
     ensures later { IfOk result (λ e. IfSome e.pend (λ p. (e.commit ≡ []) × (ids_of e.verdict ≡ 1))) }
     ensures unmarked { IfOk result (λ e. e.mark ≡ None) }
@@ -165,11 +169,12 @@ pub fn enqueue(
     requires transaction { store.now.transaction ≤ next }
     requires next { next ≤ 2 ^ 61 }
     requires moment { moment ≤ 2 ^ 62 }
-    ensures means { IfOk result (λ e. (s : Session) → IsStateOf session.now s → (queue : Sequence ℕ) (consumer : Choice (Sequence ℕ)) → enqueue store.now s ask.now next moment ≡ meant e queue consumer moment s) }
+    ensures means { IfOk result
+        (MeansFor (IsStateOf session.now) (λ s. enqueue store.now s ask.now next moment) moment) }
     ensures answered { IfOk result (λ e. IsAnswered e.verdict) }
     ensures one { IfOk result (λ e. ids_of e.verdict ≤ 1) }
     ensures limit { IfOk result (λ e. next + ids_of e.verdict ≤ 2 ^ 61) }
-    ensures within { IfOk result (λ e. (r : ℕ) → All (IsWithin (next + ids_of e.verdict) (store.now.transaction + ids_of e.verdict) r) e.commit) }
+    ensures within { IfOk result (CommitsWithin next store.now.transaction) }
     ensures adds { IfOk result (λ e. IfSome e.pend (AddsNew next)) }
     ensures later { IfOk result (λ e. IfSome e.pend (λ p. (e.commit ≡ []) × (ids_of e.verdict ≡ 1))) }
     ensures unmarked { IfOk result (λ e. e.mark ≡ None) }

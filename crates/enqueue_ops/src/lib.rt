@@ -5,6 +5,3 @@ mod addition;
 mod effect;
 
 pub use effect::enqueue;
-
-#[cfg(test)]
-mod tests;

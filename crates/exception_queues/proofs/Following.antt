@@ -1,6 +1,6 @@
--- How courses follow changes one by one, and what they settle.
+-- How outcomes follow changes one by one, and what they settle.
 use Rattle.std.proofs.Common.{◌≡◌, ℕ, List, [], ◌∷◌, ◌++◌, Bool, true, false, cond, Option, Some, None, Result, Ok, Err, IfSome, OnOk, inl, inr, refl, sym, ◌∙◌, ap, subst, append_assoc, append-nil}
-use Rattle.std.specs.Prelude.{◌==◌, ◌||◌, fold, find, is_some, if◌then◌else◌}
+use Rattle.std.specs.Prelude.{◌==◌, ◌||◌, fold, find, is_some}
 use Rattle.std.specs.List.{flat_map, list_any}
 use Rattle.std.specs.Option.{unwrap_or}
 use Rattle.std.proofs.lemmas.Bool.{cases_Bool, cases_eq, cond-false, cond_both, eqb-true, eq-eqb, ne_eqb, or_left, or_parts, or_right}
@@ -15,8 +15,8 @@ use Rattle.queue_rows.specs.declared.rows.SlotState.TheVariants as states
 use Rattle.queue_rows.specs.declared.change.Change.{Change}
 use Rattle.queue_rows.specs.declared.change.Change.TheVariants as changes
 use Rattle.exception_queues.specs.Left.{left_some}
-use Rattle.exception_queues.specs.Courses.{course_of, course_after, next_course, course_if_named, settling_by, AreCourses}
-use Rattle.exception_queues.specs.declared.courses.Courses.{Courses}
+use Rattle.exception_queues.specs.Outcomes.{outcome_of, outcome_after, next_outcome, outcome_if_named, named_with, settling_by, AreOutcomes, IsFollowed}
+use Rattle.exception_queues.specs.declared.outcomes.Outcomes.{Outcomes}
 
 -- ---- a change that names another message, or none
 
@@ -128,41 +128,41 @@ stays q m n ids (c ∷ cs) is h =
     let more = stays q m n (with_name ids (named_by c)) cs is h in
     (ap (λ m. fold left_some m cs) left ∙ more.0, ap (λ n. fold (moment_by q) n cs) moment ∙ more.1)
 
-unnamed : (t : Tables) (cs : List Change) (q : ℕ) → list_any (λ n. n == q) (names_of cs) ≡ false → course_after t cs q ≡ course_after t [] q
-unnamed t cs q h = let both = stays q (find_message t q) 0 [] cs (found_is q t.messages) h in λ i. record { message = both.0 i; moment = both.1 i }
+unnamed : (t : Tables) (cs : List Change) (q : ℕ) → list_any (λ n. n == q) (names_of cs) ≡ false → outcome_after t cs q ≡ outcome_after t [] q
+unnamed t cs q h = let both = stays q (find_message t q) 0 [] cs (found_is q t.messages) h in λ i. record { id = q; message = both.0 i; moment = both.1 i }
 
 -- ---- one more change
 
 names_push : (cs : List Change) (c : Change) → names_of (cs ++ c ∷ []) ≡ with_name (names_of cs) (named_by c)
 names_push cs c = fold_push (λ ns c. with_name ns (named_by c)) [] cs c
 
-after_push : (t : Tables) (cs : List Change) (c : Change) (q : ℕ) → course_after t (cs ++ c ∷ []) q ≡ next_course q c (course_after t cs q)
+after_push : (t : Tables) (cs : List Change) (c : Change) (q : ℕ) → outcome_after t (cs ++ c ∷ []) q ≡ next_outcome c (outcome_after t cs q)
 after_push t cs c q =
     let left = fold_push left_some (find_message t q) cs c in
     let moment = fold_push (moment_by q) 0 cs c in
-    λ i. record { message = left i; moment = moment i }
+    λ i. record { id = q; message = left i; moment = moment i }
 
-next_other : (t : Tables) (cs : List Change) (c : Change) (q : ℕ) → is_named q (named_by c) ≡ false → course_after t (cs ++ c ∷ []) q ≡ course_after t cs q
+next_other : (t : Tables) (cs : List Change) (c : Change) (q : ℕ) → is_named q (named_by c) ≡ false → outcome_after t (cs ++ c ∷ []) q ≡ outcome_after t cs q
 next_other t cs c q h =
     let left = some_other q (message_after t cs q) c (after_is t cs q) h in
     let moment = moment_other q (last_moment cs q) c h in
-    after_push t cs c q ∙ (λ i. record { message = left i; moment = moment i })
+    after_push t cs c q ∙ (λ i. record { id = q; message = left i; moment = moment i })
 
 -- what holds of a message that the change does not name
-if_other : (t : Tables) (cs : List Change) (c : Change) (q : ℕ) → is_named q (named_by c) ≡ false → course_if_named t cs q ≡ course_if_named t (cs ++ c ∷ []) q
+if_other : (t : Tables) (cs : List Change) (c : Change) (q : ℕ) → is_named q (named_by c) ≡ false → outcome_if_named t cs q ≡ outcome_if_named t (cs ++ c ∷ []) q
 if_other t cs c q h =
     let same : list_any (λ n. n == q) (names_of (cs ++ c ∷ [])) ≡ list_any (λ n. n == q) (names_of cs) =
     ap (list_any (λ n. n == q)) (names_push cs c) ∙ named_more q (names_of cs) (named_by c) ∙ ap (λ b. list_any (λ n. n == q) (names_of cs) || b) h ∙ sym (or_false _) in
     λ i. cond (sym same i) (Some (sym (next_other t cs c q h) i)) None
 
-pub after_unnaming : (t : Tables) (cs : List Change) (c : Change) (all : Courses) → named_by c ≡ None → AreCourses t cs all → AreCourses t (cs ++ c ∷ []) all
+pub after_unnaming : (t : Tables) (cs : List Change) (c : Change) (all : Outcomes) → named_by c ≡ None → AreOutcomes t cs all → AreOutcomes t (cs ++ c ∷ []) all
 after_unnaming t cs c all none are = record {
   names = are.names ∙ sym (names_push cs c ∙ ap (with_name (names_of cs)) none);
   each = λ q. are.each q ∙ if_other t cs c q (ap (is_named q) none);
 }
 
--- the course of a message that the change names, once it is begun
-begun : (t : Tables) (cs : List Change) (id : ℕ) → unwrap_or (course_if_named t cs id) (course_after t [] id) ≡ course_after t cs id
+-- the outcome of a message that the change names, once it is begun
+begun : (t : Tables) (cs : List Change) (id : ℕ) → unwrap_or (outcome_if_named t cs id) (outcome_after t [] id) ≡ outcome_after t cs id
 begun t cs id = elim (cases_Bool (list_any (λ n. n == id) (names_of cs))) [
   | inl there ↦ rw there refl
   | inr absent ↦ rw absent (sym (unnamed t cs id absent))
@@ -172,13 +172,13 @@ is_some_if : {X : Type 0} (b : Bool) (x : X) → is_some (cond b (Some x) None) 
 is_some_if true x = refl
 is_some_if false x = refl
 
-after_naming : (t : Tables) (cs : List Change) (c : Change) (id : ℕ) (old new : Courses) → named_by c ≡ Some id
-    → new.names.items ≡ (if is_some (course_of old id) then old.names.items else old.names.items ++ id ∷ [])
-    → ((q : ℕ) → course_of new q ≡ (if id == q then Some (next_course id c (unwrap_or (course_of old id) (course_after t [] id))) else course_of old q))
-    → AreCourses t cs old → AreCourses t (cs ++ c ∷ []) new
+after_naming : (t : Tables) (cs : List Change) (c : Change) (id : ℕ) (old new : Outcomes) → named_by c ≡ Some id
+    → new.names.items ≡ named_with id old
+    → IsFollowed t id c old new
+    → AreOutcomes t cs old → AreOutcomes t (cs ++ c ∷ []) new
 after_naming t cs c id old new named names each are = record {
   names =
-      names ∙ ap (λ b. cond b old.names.items (old.names.items ++ id ∷ [])) (ap is_some (are.each id) ∙ is_some_if (list_any (λ n. n == id) (names_of cs)) (course_after t cs id))
+      names ∙ ap (λ b. cond b old.names.items (old.names.items ++ id ∷ [])) (ap is_some (are.each id) ∙ is_some_if (list_any (λ n. n == id) (names_of cs)) (outcome_after t cs id))
       ∙ ap (λ ns. cond (list_any (λ n. n == id) (names_of cs)) ns (ns ++ id ∷ [])) are.names
       ∙ sym (names_push cs c ∙ ap (with_name (names_of cs)) named);
   each = λ q. each q ∙ elim (cases_Bool (id == q)) [
@@ -192,29 +192,29 @@ after_naming t cs c id old new named names each are = record {
         ap (list_any (λ n. n == id)) (names_push cs c ∙ ap (with_name (names_of cs)) named) ∙ named_more id (names_of cs) (Some id)
         ∙ or_right (list_any (λ n. n == id) (names_of cs)) (id == id) (eq-eqb id id refl)
 
-    here : (q : ℕ) → id ≡ q → Some (next_course id c (unwrap_or (course_of old id) (course_after t [] id))) ≡ course_if_named t (cs ++ c ∷ []) q
+    here : (q : ℕ) → id ≡ q → Some (next_outcome c (unwrap_or (outcome_of old id) (outcome_after t [] id))) ≡ outcome_if_named t (cs ++ c ∷ []) q
     here q same =
-        ap (λ o. Some (next_course id c (unwrap_or o (course_after t [] id)))) (are.each id) ∙ ap (λ o. Some (next_course id c o)) (begun t cs id) ∙ ap Some (sym (after_push t cs c id))
-        ∙ sym (ap (λ b. cond b (Some (course_after t (cs ++ c ∷ []) id)) None) there) ∙ ap (course_if_named t (cs ++ c ∷ [])) same
+        ap (λ o. Some (next_outcome c (unwrap_or o (outcome_after t [] id)))) (are.each id) ∙ ap (λ o. Some (next_outcome c o)) (begun t cs id) ∙ ap Some (sym (after_push t cs c id))
+        ∙ sym (ap (λ b. cond b (Some (outcome_after t (cs ++ c ∷ []) id)) None) there) ∙ ap (outcome_if_named t (cs ++ c ∷ [])) same
 
 on_ok : {A E P Q R : Type 0} (made : Result A E) → (P → Q → R) → OnOk made P → OnOk made Q → OnOk made R
 on_ok (Ok _) step p q = step p q
 on_ok (Err _) step p q = tt
 
--- where it was named, and the course followed
-pub follows : {E : Type 0} (t : Tables) (cs : List Change) (c : Change) (id : ℕ) (old new : Courses) (made : Result (Unit {0}) E) → named_by c ≡ Some id
-    → OnOk made (new.names.items ≡ (if is_some (course_of old id) then old.names.items else old.names.items ++ id ∷ []))
-    → OnOk made ((q : ℕ) → course_of new q ≡ (if id == q then Some (next_course id c (unwrap_or (course_of old id) (course_after t [] id))) else course_of old q))
-    → AreCourses t cs old → OnOk made (AreCourses t (cs ++ c ∷ []) new)
+-- where it was named, and the outcome followed
+pub follows : {E : Type 0} (t : Tables) (cs : List Change) (c : Change) (id : ℕ) (old new : Outcomes) (made : Result (Unit {0}) E) → named_by c ≡ Some id
+    → OnOk made (new.names.items ≡ named_with id old)
+    → OnOk made (IsFollowed t id c old new)
+    → AreOutcomes t cs old → OnOk made (AreOutcomes t (cs ++ c ∷ []) new)
 follows t cs c id old new made named names each are = on_ok made (λ n e. after_naming t cs c id old new named n e are) names each
 
--- the list of courses goes on by the first of the changes that are left
-pub goes_on : (t : Tables) (cs rest more all : List Change) (c : Change) (old new : Courses) → rest ≡ c ∷ more → cs ++ rest ≡ all → AreCourses t (cs ++ c ∷ []) new
-    → (done : List Change) × (done ++ more ≡ all) × AreCourses t done new
+-- the list of outcomes goes on by the first of the changes that are left
+pub goes_on : (t : Tables) (cs rest more all : List Change) (c : Change) (old new : Outcomes) → rest ≡ c ∷ more → cs ++ rest ≡ all → AreOutcomes t (cs ++ c ∷ []) new
+    → (done : List Change) × (done ++ more ≡ all) × AreOutcomes t done new
 goes_on t cs rest more all c old new split whole are = (cs ++ c ∷ [], append_assoc cs (c ∷ []) more ∙ ap (λ r. cs ++ r) (sym split) ∙ whole, are)
 
-pub ends : (t : Tables) (cs rest all : List Change) (courses : Courses) → rest ≡ [] → cs ++ rest ≡ all → AreCourses t cs courses → AreCourses t all courses
-ends t cs rest all courses none whole are = subst (λ done. AreCourses t done courses) (sym (append-nil cs) ∙ ap (λ r. cs ++ r) (sym none) ∙ whole) are
+pub ends : (t : Tables) (cs rest all : List Change) (outcomes : Outcomes) → rest ≡ [] → cs ++ rest ≡ all → AreOutcomes t cs outcomes → AreOutcomes t all outcomes
+ends t cs rest all outcomes none whole are = subst (λ done. AreOutcomes t done outcomes) (sym (append-nil cs) ∙ ap (λ r. cs ++ r) (sym none) ∙ whole) are
 
 -- ---- what is settled
 
@@ -224,9 +224,10 @@ same_each f g (id ∷ ids) same =
     ap (λ here. here ++ flat_map f ids) (same id (or_left (id == id) (list_any (λ n. n == id) ids) (eq-eqb id id refl)))
     ∙ ap (λ rest. g id ++ rest) (same_each f g ids (λ q there. same q (or_right (id == q) (list_any (λ n. n == q) ids) there)))
 
--- by the courses of changes that is settled which the changes settle
-pub settles : (t : Tables) (cs : List Change) (all : Courses) → AreCourses t cs all → flat_map (λ id. settling_by t (course_of all id)) all.names.items ≡ flat_map (settling t cs) (names_of cs)
+-- what the changes settle, of each message that they name by its outcome
+pub settles : (t : Tables) (cs : List Change) (all : Outcomes) → AreOutcomes t cs all
+    → flat_map (λ id. settling_by t (outcome_of all id)) all.names.items ≡ flat_map (settling t cs) (names_of cs)
 settles t cs all are =
-    ap (flat_map (λ id. settling_by t (course_of all id))) are.names
-    ∙ same_each (λ id. settling_by t (course_of all id)) (settling t cs) (names_of cs)
-    (λ id named. ap (settling_by t) (are.each id ∙ ap (λ b. cond b (Some (course_after t cs id)) None) named))
+    ap (flat_map (λ id. settling_by t (outcome_of all id))) are.names
+    ∙ same_each (λ id. settling_by t (outcome_of all id)) (settling t cs) (names_of cs)
+    (λ id named. ap (settling_by t) (are.each id ∙ ap (λ b. cond b (Some (outcome_after t cs id)) None) named))

@@ -1,2 +1,2 @@
-pub mod Courses
 pub mod Left
+pub mod Outcomes

@@ -1,16 +1,13 @@
 //! What commits settle besides: which messages move to their exception queues, and which go.
 #![tactic(auto)]
 
-mod courses;
 mod left;
 mod lookup;
 mod names;
+mod outcomes;
 mod settling;
 mod slots;
 
 pub use lookup::{MessageTables, find_queue, find_table};
 pub use settling::{exception_queue_of, settle};
 pub use slots::{is_exception, slot_of};
-
-#[cfg(test)]
-mod tests;

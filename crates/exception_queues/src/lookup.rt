@@ -10,20 +10,14 @@ use queue_rows::{MsgRow, QueueRow, TableRow, Tables};
 pub fn find_table<'a>(tables: &'a Tables, name: &Name) -> Option<&'a TableRow>
     ensures { option_copied result ≡ find_table tables.now name.now }
 {
-    tables
-        .tables
-        .iter()
-        .find(|r| r.name.as_str() == name.as_str())
+    tables.tables.iter().find(|row| row.name == *name)
 }
 
 /// The queue of that name.
 pub fn find_queue<'a>(tables: &'a Tables, name: &Name) -> Option<&'a QueueRow>
     ensures { option_copied result ≡ find_queue tables.now name.now }
 {
-    tables
-        .queues
-        .iter()
-        .find(|r| r.name.as_str() == name.as_str())
+    tables.queues.iter().find(|row| row.name == *name)
 }
 
 /// Tables, and a way to find a message in them by its number.

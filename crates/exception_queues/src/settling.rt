@@ -1,17 +1,17 @@
 // What becomes of the messages that changes name.
 ghost use Rattle.std.specs.Prelude.{◌≡◌, ◌++◌, [], IfOk, OnOk, Some, None, option_copied};
 ghost use Rattle.std.specs.List.{flat_map};
-ghost use Rattle.queue_rows.specs.Settling.{is_exception_of, named_or_default, exception_queue_of, retention_of, is_lost, is_handled, is_kept_by_none, settling_of, settling, names_of, settled};
-ghost use Rattle.exception_queues.specs.Courses.{course_of, settling_by};
+ghost use Rattle.queue_rows.specs.Settling.{is_exception_of, named_or_default, exception_queue_of, retention_of, is_lost, is_handled, is_kept_by_none, settling_of, settled};
+ghost use Rattle.exception_queues.specs.Outcomes.{outcome_of, settling_by};
 
-use crate::courses::{Course, Courses, courses_of};
 use crate::lookup::{MessageTables, find_queue};
+use crate::outcomes::{Outcome, Outcomes, outcomes_of};
 use crate::slots::{
     all_gone, any_expired, any_open, any_processed, is_exception, is_slot_processed,
 };
 use payload_records::{Copied, List, Name};
 use queue_rows::{Change, MsgRow, QueueRow, Tables};
-use std::alloc::{AllocError, Global};
+use std::alloc::AllocError;
 
 fn is_lost(message: &MsgRow) -> bool
     ensures { result ≡ is_lost message.now }
@@ -48,7 +48,7 @@ fn is_exception_of(table: &Name, queue: Option<&QueueRow>) -> bool
     ensures { result ≡ is_exception_of table.now (option_copied queue.entry) }
 {
     match queue {
-        Some(queue) => is_exception(queue.kind) && queue.table.as_str() == table.as_str(),
+        Some(queue) => is_exception(queue.kind) && queue.table == *table,
         None => false,
     }
 }
@@ -101,63 +101,45 @@ fn settle_message(
     Ok(())
 }
 
-fn settle_course(
-    more: &mut List<Change>,
+fn settle_outcome(
+    changes: &mut List<Change>,
     tables: &Tables,
-    course: &Course,
+    outcome: &Outcome,
 ) -> Result<(), AllocError>
-    ensures { OnOk result (more.new ≡ more.old ++ settling_of tables.now course.now.moment course.now.message) }
+    ensures { OnOk result (changes.new ≡ changes.old ++ settling_by tables.now (Some outcome.now)) }
 {
-    match &course.message {
-        Some(message) => settle_message(more, tables, message, course.moment),
+    match &outcome.message {
+        Some(message) => settle_message(changes, tables, message, outcome.moment),
         None => Ok(()),
     }
 }
 
 fn settle_named(
-    more: &mut List<Change>,
+    changes: &mut List<Change>,
     tables: &Tables,
-    courses: &Courses,
+    outcomes: &Outcomes,
     id: u64,
 ) -> Result<(), AllocError>
-    ensures { OnOk result (more.new ≡ more.old ++ settling_by tables.now (course_of courses.now id)) }
+    ensures { OnOk result (changes.new ≡ changes.old ++ settling_by tables.now (outcome_of outcomes.now id)) }
 {
-    match courses.course(id) {
-        Some(course) => settle_course(more, tables, course),
+    match outcomes.outcome(id) {
+        Some(outcome) => settle_outcome(changes, tables, outcome),
         None => Ok(()),
     }
 }
 
-fn settlings_by(
-    alloc: Global,
+fn settle_all(
+    mut changes: List<Change>,
     tables: &Tables,
-    courses: &Courses,
+    outcomes: &Outcomes,
 ) -> Result<List<Change>, AllocError>
-    ensures { IfOk result (λ more. more ≡ flat_map (λ id. settling_by tables.now (course_of courses.now id)) courses.now.names.items) }
+    ensures { IfOk result (λ all. all ≡ changes
+        ++ flat_map (λ id. settling_by tables.now (outcome_of outcomes.now id)) outcomes.now.names.items) }
 {
-    let mut more = List::new(alloc);
-    for id in courses.names() {
-        settle_named(&mut more, tables, courses, *id)?;
+    for id in outcomes.names() {
+        settle_named(&mut changes, tables, outcomes, *id)?;
     }
-    Ok(more)
-}
-
-fn settlings<T: MessageTables>(
-    tables: &T,
-    changes: &List<Change>,
-) -> Result<List<Change>, AllocError>
-    ensures { IfOk result (λ more. more ≡ flat_map (settling (T.tables tables.now) changes.now) (names_of changes.now)) }
-{
-    let courses = courses_of(tables, changes)?;
-    settlings_by(changes.allocator(), tables.tables(), &courses)
-}
-
-fn joined(first: List<Change>, second: List<Change>) -> Result<List<Change>, AllocError>
-    ensures { IfOk result (λ all. all ≡ first ++ second) }
-{
-    let mut items = first.into_vec();
-    items.append(&mut second.into_vec())?;
-    Ok(List::from_vec(items))
+    Ok(changes)
 }
 
 /// What a list of changes is with what it settles: for each message that it names, that it moves to its exception queue
@@ -168,6 +150,6 @@ pub fn settle<T: MessageTables>(
 ) -> Result<List<Change>, AllocError>
     ensures { IfOk result (λ all. all ≡ settled (T.tables tables.now) changes) }
 {
-    let more = settlings(tables, &changes)?;
-    joined(changes, more)
+    let outcomes = outcomes_of(tables, &changes)?;
+    settle_all(changes, tables.tables(), &outcomes)
 }

@@ -1,7 +1,7 @@
 // The states of slots, and what the slots of a message have come to.
 ghost use Rattle.std.specs.Prelude.{◌≡◌, option_copied};
 ghost use Rattle.std.specs.List.{list_any, list_all};
-ghost use Rattle.queue_rows.specs.Rows.{slot_index, slot_of};
+ghost use Rattle.queue_rows.specs.Rows.{slot_of};
 ghost use Rattle.queue_rows.specs.Settling.{is_exception, is_open, is_processed, is_expired, is_gone, is_slot_processed};
 
 use payload_records::List;
@@ -57,29 +57,18 @@ fn is_gone(state: SlotState) -> bool
 
 // ---- the slots of a message
 
-/// The index of the slot of a message that has that number.
-pub fn slot_index(message: &MsgRow, slot: u64) -> u64
-    ensures { result ≡ slot_index message.now slot }
-{
-    if slot == 0 {
-        (message.slots.len() as u64).saturating_sub(1)
-    } else {
-        slot - 1
-    }
-}
-
 /// The slot of a message that has that number.
 pub fn slot_of(message: &MsgRow, slot: u64) -> Option<&SlotRow>
     ensures { option_copied result ≡ slot_of message.now slot }
 {
-    message.slots.get(slot_index(message, slot) as usize)
+    message.slot(slot)
 }
 
 /// Whether the slot of a message that has that number was taken.
 pub fn is_slot_processed(message: &MsgRow, slot: u64) -> bool
     ensures { result ≡ is_slot_processed message.now slot }
 {
-    match slot_of(message, slot) {
+    match message.slot(slot) {
         Some(slot) => is_processed(slot.state),
         None => false,
     }

@@ -1,6 +1,6 @@
 -- How many slots a change can add to the messages of a number.
 use Rattle.std.proofs.Common.{◌≡◌, ℕ, zero, suc, ◌+◌, ◌<◌, ◌≤◌, ◌==◌, List, [], ◌∷◌, length, length-append, take, drop, get_or, Bool, true, false, cond, not, filter, Option, Some, None, refl, ap, ◌∙◌, arith}
-use Rattle.std.specs.Prelude.{count_by, find, position, slice_get, sum_by}
+use Rattle.std.specs.Prelude.{count_by, find, position, slice_get, sum_by, is_some, if◌then◌else◌}
 use Rattle.std.specs.Option.{option_map_or}
 use Rattle.std.specs.Str.{bytes_eq}
 use Rattle.std.proofs.lemmas.Bool.{eqb-true}
@@ -8,8 +8,8 @@ use Rattle.std.proofs.lemmas.List.{length-set}
 use Rattle.std.proofs.lemmas.List.Filters.{sum_by-filter_both}
 use Rattle.std.proofs.lemmas.List.Sums.{sum_by-cons, sum_by_push, sum_by-append, sum_by-take-drop, sum_by-set}
 use Rattle.std.proofs.lemmas.Option.{get_or_from_slice_get, slice_get_within}
-use Rattle.queue_rows.specs.Rows.{find_message, set_some, changed_some, changed_nth, changed_at, changed_first, removed_at, slot_index, with_slot}
-use Rattle.queue_rows.specs.Tables.{after_change, slot_zero, moved_to, move_some, in_state, retried}
+use Rattle.queue_rows.specs.Rows.{find_table, find_queue, find_message, set_some, changed_some, changed_nth, changed_at, changed_first, removed_at, has_slot, slot_index, with_slot}
+use Rattle.queue_rows.specs.Tables.{after_change, slot_zero, moved_to, move_in, move_some, drop_queue, drop_table, in_state, retried}
 use Rattle.queue_rows.specs.declared.tables.Tables.{Tables}
 use Rattle.queue_rows.specs.declared.rows.MsgRow.{MsgRow}
 use Rattle.queue_rows.specs.declared.rows.SlotRow.{SlotRow}
@@ -74,9 +74,14 @@ one_more true x = omega arith
 one_more false x = omega arith
 
 -- a slot is changed, and none is added
+length_if : (b : Bool) (xs ys : List SlotRow) → length xs ≡ length ys → length (if b then xs else ys) ≡ length ys
+length_if true xs ys e = e
+length_if false xs ys e = refl
+
 same_slots : (id slot : ℕ) (g : SlotRow → SlotRow) (m : MsgRow) → slots_if id (with_slot slot g m) ≤ slots_if id m + 0
 same_slots id slot g m =
-    let same : length (changed_nth g (slot_index m slot) m.slots) ≡ length m.slots = length_set_some m.slots (slot_index m slot) (changed_some g (slice_get m.slots (slot_index m slot))) in
+    let changed : length (changed_nth g (slot_index m slot) m.slots) ≡ length m.slots = length_set_some m.slots (slot_index m slot) (changed_some g (slice_get m.slots (slot_index m slot))) in
+    let same : length (with_slot slot g m).slots ≡ length m.slots = length_if (has_slot m slot) (changed_nth g (slot_index m slot) m.slots) m.slots changed in
     cond_more (m.id == id) _ (length m.slots) 0 (omega (arith, same))
 
 slot_changed : (id changed slot : ℕ) (g : SlotRow → SlotRow) (ms : List MsgRow) → slots_of id (changed_first (λ m. m.id == changed) (with_slot slot g) ms) ≤ slots_of id ms + 0
@@ -86,18 +91,32 @@ slot_changed id changed slot g ms = first_more (λ m. m.id == changed) (slots_if
 moved_slots : (id at : ℕ) (queue : List ℕ) (m : MsgRow) → slots_if id (moved_to queue at m) ≤ slots_if id m + one_if (m.id == id)
 moved_slots id at queue m = omega (arith, one_more (m.id == id) (length m.slots), ap (or_none (m.id == id)) (length-append m.slots (slot_zero m.slots at ∷ [])))
 
-moved_more : (t : Tables) (id moved at : ℕ) (queue : List ℕ) (o : Option MsgRow) → find_message t moved ≡ o
-    → slots_of id (move_some t o queue at).messages ≤ slots_of id t.messages + one_if (moved == id)
-moved_more t id moved at queue None e = omega arith
-moved_more t id moved at queue (Some m) e =
-    let has_it : m.id ≡ moved = found_has_id t.messages moved m e in
+-- where a test chooses, no more than in either case
+no_more_if : {X : Type 0} (f : X → ℕ) (b : Bool) (x y : X) (n : ℕ) → f x ≤ n → f y ≤ n → f (if b then x else y) ≤ n
+no_more_if f true x y n h k = h
+no_more_if f false x y n h k = k
+
+moved_in : (t : Tables) (id moved at : ℕ) (queue : List ℕ) (m : MsgRow) → m.id ≡ moved
+    → slots_of id (move_in t m queue at).messages ≤ slots_of id t.messages + one_if (moved == id)
+moved_in t id moved at queue m has_it =
     first_more (λ r. r.id == m.id) (slots_if id) (moved_to queue at) (one_if (moved == id))
     (λ r is. let same : r.id ≡ moved = eqb-true r.id m.id is ∙ has_it in
     omega (arith, moved_slots id at queue r, ap (λ (n : ℕ). one_if (n == id)) same)) t.messages
 
+moved_more : (t : Tables) (id moved at : ℕ) (queue : List ℕ) (o : Option MsgRow) → find_message t moved ≡ o
+    → slots_of id (move_some t o queue at).messages ≤ slots_of id t.messages + one_if (moved == id)
+moved_more t id moved at queue None e = omega arith
+moved_more t id moved at queue (Some m) e =
+    no_more_if (λ u. slots_of id u.messages) (is_some (find_queue t queue)) (move_in t m queue at) t (slots_of id t.messages + one_if (moved == id))
+    (moved_in t id moved at queue m (found_has_id t.messages moved m e)) (omega arith)
+
 -- no change adds more slots than it says
 pub slots_after : (id : ℕ) (t : Tables) (c : Change) → slots_of id (after_change t c).messages ≤ slots_of id t.messages + slots_added id c
-slots_after id t (changes.DropQueue name) = omega (arith, filtered (λ m. not (bytes_eq m.queue name)) (slots_if id) t.messages)
+slots_after id t (changes.DropQueue name) =
+    no_more_if (λ u. slots_of id u.messages) (is_some (find_queue t name)) (drop_queue t name) t (slots_of id t.messages + 0)
+    (omega (arith, filtered (λ m. not (bytes_eq m.queue name)) (slots_if id) t.messages)) (omega arith)
+slots_after id t (changes.DropTable name) =
+    no_more_if (λ u. slots_of id u.messages) (is_some (find_table t name)) (drop_table t name) t (slots_of id t.messages + 0) (omega arith) (omega arith)
 slots_after id t (changes.Enqueued row) = omega (arith, sum_by_push (slots_if id) t.messages row)
 slots_after id t (changes.Retried k slot retries until at) = slot_changed id k slot (retried retries until at) t.messages
 slots_after id t (changes.Ready k slot at) = slot_changed id k slot (in_state states.Ready at) t.messages

@@ -9,7 +9,7 @@ use Rattle.std.proofs.lemmas.List.Elements.{All-append, All-drop, All-filter, Al
 use Rattle.std.proofs.lemmas.List.Folds.{fold-map}
 use Rattle.std.proofs.lemmas.List.Sorted.{IsPartitionedBy-ltb}
 use Rattle.std.proofs.lemmas.List.Sums.{length-filter, prefix_len_is}
-use Rattle.message_store.specs.Stamps.{ids_of, stamps_of, AreBelow, AreRising, HasStamps, TellsStamps, without_entry}
+use Rattle.message_store.specs.Stamps.{listed, stamps_of, AreBelow, AreRising, HasStamps, TellsStamps, without_entry}
 use Rattle.message_store.specs.declared.message_index.Entry.{Entry}
 use Rattle.message_store.specs.declared.message_index.Place.{Place}
 use Rattle.message_store.specs.declared.message_index.Place.TheVariants as places
@@ -40,11 +40,11 @@ module _ {X Y : Type 0} (f : X → Y) where
       ap (λ k. cond (nat_lt k (length (map f xs))) (Some k) None) (prefix_len-map (λ y. not (p y)) xs) ∙ ap (λ l. cond (nat_lt n l) (Some n) None) (length-map xs f)
 
 -- the place of an id among the entries is that among the ids
-pub same_place : (id : ℕ) (es : List Entry) → position (λ e. e.id == id) es ≡ position (λ i. i == id) (ids_of es)
+pub same_place : (id : ℕ) (es : List Entry) → position (λ e. e.id == id) es ≡ position (λ i. i == id) (listed es)
 same_place id es = sym (position-map (λ (e : Entry). e.id) (λ i. i == id) es)
 
 -- an id stands in as many places as it has stamps
-pub stamps_counted : (id : ℕ) (es : List Entry) → count_by (λ i. i == id) (ids_of es) ≡ length (stamps_of id es)
+pub stamps_counted : (id : ℕ) (es : List Entry) → count_by (λ i. i == id) (listed es) ≡ length (stamps_of id es)
 stamps_counted id es =
     fold-map (λ a i. a + cond (i == id) 1 0) (λ (e : Entry). e.id) 0 es ∙ sym (length-filter (λ (e : Entry). e.id == id) es) ∙ sym (length-map (filter (λ e. e.id == id) es) (λ (e : Entry). e.stamp))
 
@@ -59,7 +59,7 @@ nowhere id (e ∷ es) none = elim (cases_Bool (e.id == id)) [
       rw other (omega (arith, behind))
 ]
 
-pub no_place : (id : ℕ) (es : List Entry) → stamps_of id es ≡ [] → None ≡ position (λ i. i == id) (ids_of es)
+pub no_place : (id : ℕ) (es : List Entry) → stamps_of id es ≡ [] → None ≡ position (λ i. i == id) (listed es)
 no_place id es none =
     let n = length es in
     let past : nat_lt n n ≡ false = le-ltb n n (omega arith) in
@@ -103,10 +103,10 @@ one_place id s (e ∷ es) rising is = elim (cases_Bool (e.id == id)) [
       record { at = rw (other, below) (ap (λ n. 1 + n) behind.at); within = rw below (let h = behind.within in omega (arith, h)) }
 ]
 
-pub place_within : (id s : ℕ) (es : List Entry) → AreRising es → stamps_of id es ≡ s ∷ [] → prefix_len (λ e. nat_lt e.stamp s) es < length (ids_of es)
+pub place_within : (id s : ℕ) (es : List Entry) → AreRising es → stamps_of id es ≡ s ∷ [] → prefix_len (λ e. nat_lt e.stamp s) es < length (listed es)
 place_within id s es rising is = let first = one_place id s es rising is in omega (arith, first.within, length-map es (λ (e : Entry). e.id))
 
-pub its_place : (id s : ℕ) (es : List Entry) → AreRising es → stamps_of id es ≡ s ∷ [] → Some (prefix_len (λ e. nat_lt e.stamp s) es) ≡ position (λ i. i == id) (ids_of es)
+pub its_place : (id s : ℕ) (es : List Entry) → AreRising es → stamps_of id es ≡ s ∷ [] → Some (prefix_len (λ e. nat_lt e.stamp s) es) ≡ position (λ i. i == id) (listed es)
 its_place id s es rising is =
     let first = one_place id s es rising is in
     let n = prefix_len (λ e. nat_lt e.stamp s) es in
@@ -115,7 +115,7 @@ its_place id s es rising is =
     sym e ∙ same_place id es
 
 -- the ids without one are those of the entries without it
-pub ids_removed : (es : List Entry) (at : ℕ) → ids_of (remove es at) ≡ remove (ids_of es) at
+pub ids_removed : (es : List Entry) (at : ℕ) → listed (remove es at) ≡ remove (listed es) at
 ids_removed es at =
     let f : Entry → ℕ = λ e. e.id in
     map-append f (take at es) (drop (suc at) es) ∙ ap (λ x. x ++ map f (drop (suc at) es)) (sym (take-map f at es)) ∙ ap (λ x. take at (map f es) ++ x) (sym (drop-map f (suc at) es))

@@ -1,9 +1,14 @@
--- A queue that a message is put into, by what it needs to know of the message and the tables.
-use Rattle.std.specs.Prelude.{ℤ, List, find, if◌then◌else◌}
+-- Queues, when a message is put into one of them.
+use Rattle.std.specs.Prelude.{ℕ, ℤ, List}
 use Rattle.std.specs.Str.{bytes_eq}
-use Rattle.queue_rows.specs.Tables.{lane_of, min_int, is_grouped_table}
+use Rattle.queue_rows.specs.Rows.{changed_first}
+use Rattle.queue_rows.specs.Tables.{lowered_to}
 use Rattle.queue_rows.specs.declared.rows.TableRow.{TableRow}
 use Rattle.queue_rows.specs.declared.rows.QueueRow.{QueueRow}
+use Rattle.message_store.specs.Rows.{Rows}
 
-abbrev pub lowered_to : List TableRow → List ℤ → QueueRow → QueueRow
-lowered_to tables place queue = if is_grouped_table (find (λ r. bytes_eq r.name queue.table) tables) then queue else record queue { lowest = min_int queue.lowest (lane_of place) }
+-- queues, when a message is put into the one of that name
+abbrev pub with_lowered : List TableRow → List ℤ → List ℕ → Rows QueueRow → Rows QueueRow
+with_lowered tables place name queues = record queues {
+  items = changed_first (λ q. bytes_eq q.name name) (lowered_to tables place) queues.items;
+}

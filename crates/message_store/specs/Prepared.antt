@@ -31,18 +31,28 @@ abbrev pub TellsAdded : (ℕ → Option ℕ) → List Change → Change → Type
 TellsAdded told cs (changes.Moved id queue at) = unwrap_or (told id) 0 ≡ sum_by (slots_added id) cs
 TellsAdded told cs _ = Unit {0}
 
+-- of each number, so many more are told than before
+abbrev pub TellsMore : (ℕ → ℕ) → (ℕ → Option ℕ) → (ℕ → Option ℕ) → Type 0
+TellsMore more old new = (id : ℕ) → unwrap_or (new id) 0 ≡ unwrap_or (old id) 0 + more id
+
+-- of each number, what is told is how many slots these changes may add to its messages
+abbrev pub TellsSums : (ℕ → Option ℕ) → List Change → Type 0
+TellsSums told cs = (id : ℕ) → unwrap_or (told id) 0 ≡ sum_by (slots_added id) cs
+
 -- how many slots a message of a number can have after some of these changes
 abbrev pub most_slots : ℕ → List MsgRow → List Change → ℕ
 most_slots id messages cs = slots_of id messages + sum_by (slots_added id) cs
 
 -- there is memory for the slots of a message that is moved, and for slot 0 behind them
 abbrev pub HasSlotRoom : List MsgRow → List Change → Change → Rows SlotRow → Type 0
-HasSlotRoom messages cs (changes.Moved id queue at) slots = (slots.items ≡ []) × (most_slots id messages cs ≤ slots.room)
+HasSlotRoom messages cs (changes.Moved id queue at) slots =
+    (slots.items ≡ []) × (most_slots id messages cs ≤ slots.room)
 HasSlotRoom messages cs _ slots = Unit {0}
 
 -- there is memory for the slots of the message that this change moves
 abbrev pub HasItsSlotRoom : Tables → Change → Rows SlotRow → Type 0
-HasItsSlotRoom t (changes.Moved id queue at) slots = (slots.items ≡ []) × IfSome (find_message t id) (λ m. length m.slots < slots.room)
+HasItsSlotRoom t (changes.Moved id queue at) slots =
+    (slots.items ≡ []) × IfSome (find_message t id) (λ m. length m.slots < slots.room)
 HasItsSlotRoom t _ slots = Unit {0}
 
 -- the change can be made in these tables without memory

@@ -1,8 +1,8 @@
 // How many slots changes add to the messages that they move.
-ghost use Rattle.std.specs.Prelude.{◌≡◌, ◌==◌, ◌+◌, ℕ, All, IfOk, OnOk, nat_eq, sum_by, unwrap_or, if◌then◌else◌};
+ghost use Rattle.std.specs.Prelude.{◌≡◌, ◌==◌, ◌+◌, All, IfOk, OnOk, nat_eq, unwrap_or, if◌then◌else◌};
 ghost use Rattle.std.specs.HashMap.{get};
 ghost use Rattle.std.specs.List.{list_any};
-ghost use Rattle.message_store.specs.Prepared.{slots_added, is_move, TellsAdded};
+ghost use Rattle.message_store.specs.Prepared.{slots_added, is_move, TellsAdded, TellsMore, TellsSums};
 
 use payload_records::List;
 use queue_rows::Change;
@@ -27,7 +27,8 @@ pub(crate) fn added_to(added: &AddedSlots, id: u64) -> usize
 }
 
 fn add(added: &mut AddedSlots, id: u64, more: usize) -> Result<(), AllocError>
-    ensures { OnOk result ((q : ℕ) → unwrap_or (get nat_eq added.new q) 0 ≡ unwrap_or (get nat_eq added.old q) 0 + (if id == q then more else 0)) }
+    ensures { OnOk result
+        (TellsMore (λ q. if id == q then more else 0) (get nat_eq added.old) (get nat_eq added.new)) }
 {
     let slots = total(added_to(added, id), more)?;
     added.insert(id, slots)?;
@@ -35,7 +36,8 @@ fn add(added: &mut AddedSlots, id: u64, more: usize) -> Result<(), AllocError>
 }
 
 fn add_of(added: &mut AddedSlots, change: &Change) -> Result<(), AllocError>
-    ensures { OnOk result ((q : ℕ) → unwrap_or (get nat_eq added.new q) 0 ≡ unwrap_or (get nat_eq added.old q) 0 + slots_added q change.now) }
+    ensures { OnOk result
+        (TellsMore (λ q. slots_added q change.now) (get nat_eq added.old) (get nat_eq added.new)) }
 {
     match change {
         Change::Enqueued(row) => add(added, row.id, row.slots.len()),
@@ -45,7 +47,7 @@ fn add_of(added: &mut AddedSlots, change: &Change) -> Result<(), AllocError>
 }
 
 fn added_by_all(changes: &List<Change>) -> Result<AddedSlots, AllocError>
-    ensures { IfOk result (λ added. (id : ℕ) → unwrap_or (get nat_eq added id) 0 ≡ sum_by (slots_added id) changes.now) }
+    ensures { IfOk result (λ added. TellsSums (get nat_eq added) changes.now) }
 {
     let mut added = HashMap::new(changes.allocator());
     for change in changes {
@@ -66,7 +68,8 @@ fn any_move(changes: &List<Change>) -> bool
     changes.iter().any(|change| is_move(change))
 }
 
-/// How many slots the changes may add to each message that they move. Where they move none, it takes no memory.
+/// How many slots the changes may add to each message that they move. Where they move none, it takes no
+/// memory.
 pub(crate) fn added_slots(changes: &List<Change>) -> Result<AddedSlots, AllocError>
     ensures { IfOk result (λ added. All (TellsAdded (get nat_eq added) changes.now) changes.now) }
 {

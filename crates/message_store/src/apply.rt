@@ -12,8 +12,8 @@ use crate::open::OpenTables;
 use crate::prepared::{Prepared, prepare};
 use crate::room::{RowKind, puts_of};
 use crate::rows::{
-    put, remove_exception_queue, remove_of_queue, remove_queue, remove_schedule, remove_sub,
-    remove_table,
+    has_queue, has_table, put, remove_exception_queue, remove_of_queue, remove_queue,
+    remove_schedule, remove_sub, remove_table,
 };
 use payload_records::{List, Name};
 use queue_rows::{Change, SlotState};
@@ -23,6 +23,9 @@ fn drop_queue(opened: &mut OpenTables, name: &Name)
     ensures held { held opened.new ≡ without_queue (held opened.old) name.now }
     ensures room { room_of opened.new ≡ room_of opened.old }
 {
+    if !has_queue(opened.queues.as_slice(), name) {
+        return;
+    }
     remove_queue(&mut opened.queues, name);
     remove_of_queue(&mut opened.subs, name);
     remove_of_queue(&mut opened.schedules, name);
@@ -33,12 +36,16 @@ fn drop_table(opened: &mut OpenTables, name: &Name)
     ensures held { held opened.new ≡ without_table (held opened.old) name.now }
     ensures room { room_of opened.new ≡ room_of opened.old }
 {
+    if !has_table(opened.tables.as_slice(), name) {
+        return;
+    }
     remove_exception_queue(&mut opened.queues, name);
     remove_table(&mut opened.tables, name);
 }
 
 fn set_counters(opened: &mut OpenTables, next: u64, transaction: u64, latest: u64)
-    ensures held { held opened.new ≡ after_change (held opened.old) (changes.Counters next transaction latest) }
+    ensures held { held opened.new
+        ≡ after_change (held opened.old) (changes.Counters next transaction latest) }
     ensures room { room_of opened.new ≡ room_of opened.old }
 {
     opened.next = next;
@@ -94,13 +101,16 @@ fn apply_change(opened: &mut OpenTables, prepared: Prepared)
     }
 }
 
-fn apply_all(opened: &mut OpenTables, prepared: Vec<Prepared>)
+// Gives the emptied list back, with its memory.
+fn apply_all(opened: &mut OpenTables, prepared: Vec<Prepared>) -> Vec<Prepared>
     requires { AreReady (held opened.old) (room_of opened.old) prepared.items }
     ensures { held opened.new ≡ after_all (held opened.old) (changes_of prepared.items) }
 {
-    for change in prepared {
+    let mut prepared = prepared;
+    for change in prepared.drain(..) {
         apply_change(opened, change);
     }
+    prepared
 }
 
 fn make_room(opened: &mut OpenTables, changes: &List<Change>) -> Result<(), AllocError>
@@ -117,30 +127,37 @@ fn make_room(opened: &mut OpenTables, changes: &List<Change>) -> Result<(), Allo
     opened.seen.reserve(puts_of(RowKind::Seen, changes))
 }
 
-fn make_ready(opened: &mut OpenTables, changes: &List<Change>) -> Result<Vec<Prepared>, AllocError>
+fn make_ready(
+    opened: &mut OpenTables,
+    changes: &List<Change>,
+    spare: Vec<Prepared>,
+) -> Result<Vec<Prepared>, AllocError>
     requires { All HasNumbers changes.now }
     ensures held { held opened.new ≡ held opened.old }
     ensures changes { IfOk result (λ ps. changes_of ps.items ≡ changes.now) }
     ensures ready { IfOk result (λ ps. AreReady (held opened.new) (room_of opened.new) ps.items) }
 {
     make_room(opened, changes)?;
-    let prepared = prepare(&opened.messages, changes)?;
+    let prepared = prepare(&opened.messages, changes, spare)?;
     Ok(prepared)
 }
 
-/// Makes the changes of a commit at that moment, in order. At want of memory the tables hold what they held before.
+/// Makes the changes of a commit at that moment, in order, and gives the spare list back. At want of memory the
+/// tables hold what they held before.
 #[tactic(auto, unfolding(queue_rows::specs::Tables::after))]
 pub(crate) fn commit(
     opened: &mut OpenTables,
     changes: &List<Change>,
     moment: u64,
-) -> Result<(), AllocError>
+    spare: Vec<Prepared>,
+) -> Result<Vec<Prepared>, AllocError>
     requires { All HasNumbers changes.now }
-    ensures ok { OnOk result (held opened.new ≡ after (held opened.old) (record { moment = moment; changes = changes.now })) }
+    ensures ok { OnOk result (held opened.new
+        ≡ after (held opened.old) (record { moment = moment; changes = changes.now })) }
     ensures err { OnErr result (held opened.new ≡ held opened.old) }
 {
-    let prepared = make_ready(opened, changes)?;
-    apply_all(opened, prepared);
+    let prepared = make_ready(opened, changes, spare)?;
+    let spare = apply_all(opened, prepared);
     opened.latest = opened.latest.max(moment);
-    Ok(())
+    Ok(spare)
 }

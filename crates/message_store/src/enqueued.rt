@@ -1,54 +1,30 @@
 // Messages that are put into queues, and moved between them.
-ghost use Rattle.std.specs.Prelude.{◌≡◌, ◌==◌, ◌^◌, ◌<◌, ◌-◌, [], option_copied, find, length, IfSome};
-ghost use Rattle.std.specs.Str.{bytes_eq};
-ghost use Rattle.queue_rows.specs.Rows.{find_message, changed_first};
-ghost use Rattle.queue_rows.specs.Tables.{lane_of, min_int, is_grouped_table, moved_to, with_message, move_some};
-ghost use Rattle.message_store.specs.Lowered.{lowered_to};
+ghost use Rattle.std.specs.Prelude.{◌≡◌, ◌==◌, ◌^◌, ◌<◌, ◌-◌, [], length, IfSome};
+ghost use Rattle.queue_rows.specs.Rows.{find_message};
+ghost use Rattle.queue_rows.specs.Tables.{is_grouped, lowered_to, with_message, move_some};
+ghost use Rattle.message_store.specs.Lowered.{with_lowered};
 ghost use Rattle.message_store.specs.Open.{held, room_of};
 
 use crate::open::OpenTables;
 use crate::open_rows::OpenRows;
-use crate::rows::queue_place;
+use crate::rows::{has_queue, queue_place, table_row};
 use payload_records::Name;
 use place_keys::Place;
 use queue_rows::{MsgRow, QueueRow, SlotRow, TableRow};
 
-fn lane_of(numbers: &[i64]) -> i64
-    ensures { result ≡ lane_of numbers.now }
+fn is_grouped(tables: &[TableRow], queue: &QueueRow) -> bool
+    ensures { result ≡ is_grouped tables.now queue.now }
 {
-    match numbers.first() {
-        Some(lane) => *lane,
-        None => 0,
-    }
-}
-
-fn table_row<'a>(tables: &'a [TableRow], name: &Name) -> Option<&'a TableRow>
-    ensures { option_copied result ≡ find (λ r. bytes_eq r.name name.now) tables.now }
-{
-    tables.iter().find(|r| r.name.as_str() == name.as_str())
-}
-
-fn is_grouped(tables: &[TableRow], table: &Name) -> bool
-    ensures { result ≡ is_grouped_table (find (λ r. bytes_eq r.name table.now) tables.now) }
-{
-    match table_row(tables, table) {
+    match table_row(tables, &queue.table) {
         Some(row) => row.grouped,
         None => false,
     }
 }
 
-fn lowest_with(queue: &QueueRow, place: &Place) -> i64
-    ensures { result ≡ min_int queue.now.lowest (lane_of place.now) }
-{
-    queue.lowest.min(lane_of(place.numbers()))
-}
-
 fn lower(tables: &[TableRow], place: &Place, queue: &mut QueueRow)
     ensures { queue.new ≡ lowered_to tables.now place.now queue.old }
 {
-    if !is_grouped(tables, &queue.table) {
-        queue.lowest = lowest_with(queue, place);
-    }
+    queue.lower(is_grouped(tables, queue), place);
 }
 
 fn lower_of(
@@ -57,7 +33,7 @@ fn lower_of(
     name: &Name,
     place: &Place,
 )
-    ensures { queues.new ≡ record queues.old { items = changed_first (λ q. bytes_eq q.name name.now) (lowered_to tables.now.items place.now) queues.old.items } }
+    ensures { queues.new ≡ with_lowered tables.now.items place.now name.now queues.old }
 {
     let Some(index) = queue_place(queues.as_slice(), name) else {
         return;
@@ -73,7 +49,8 @@ pub(crate) fn enqueue(opened: &mut OpenTables, row: MsgRow)
     requires group { row.group < 2 ^ 63 }
     requires place { 0 < opened.old.messages.room }
     ensures held { held opened.new ≡ with_message (held opened.old) row }
-    ensures room { let old = room_of opened.old in room_of opened.new ≡ record old { messages = old.messages - 1 } }
+    ensures room { let old = room_of opened.old in
+        room_of opened.new ≡ record old { messages = old.messages - 1 } }
 {
     lower_of(&opened.tables, &mut opened.queues, &row.queue, &row.place);
     opened.next = opened.next.max(row.id + 1);
@@ -81,7 +58,8 @@ pub(crate) fn enqueue(opened: &mut OpenTables, row: MsgRow)
     opened.messages.push(row);
 }
 
-/// The first message of that number stands in that queue, if there is one, with slot 0 behind its slots.
+/// The first message of that number stands in that queue, with slot 0 behind its slots. Where the one or the other is not
+/// there, nothing changes.
 pub(crate) fn move_message(
     opened: &mut OpenTables,
     id: u64,
@@ -91,12 +69,16 @@ pub(crate) fn move_message(
 )
     requires empty { slots.items ≡ [] }
     requires room { IfSome (find_message (held opened.old) id) (λ m. length m.slots < slots.room) }
-    ensures held { held opened.new ≡ move_some (held opened.old) (find_message (held opened.old) id) queue at }
+    ensures held { let old = held opened.old in
+        held opened.new ≡ move_some old (find_message old id) queue at }
     ensures room { room_of opened.new ≡ room_of opened.old }
 {
     let Some(message) = opened.messages.find(id) else {
         return;
     };
+    if !has_queue(opened.queues.as_slice(), &queue) {
+        return;
+    }
     lower_of(&opened.tables, &mut opened.queues, &queue, &message.place);
     let id = message.id;
     opened.messages.move_to(id, queue, at, slots);

@@ -16,6 +16,3 @@ mod slots;
 mod store;
 
 pub use store::Store;
-
-#[cfg(test)]
-mod tests;

@@ -1,8 +1,8 @@
 // An index of messages by their ids.
-ghost use Rattle.std.specs.Prelude.{◌≡◌, ◌==◌, ◌+◌, ◌<◌, ◌≤◌, ℕ, [], ◌∷◌, ◌++◌, Some, IsTrue, IfSome, OnOk, OnErr, if◌then◌else◌, count_by, length, nat_eq, nat_lt, position, remove};
+ghost use Rattle.std.specs.Prelude.{◌≡◌, ◌==◌, ◌+◌, ◌<◌, ◌≤◌, [], ◌∷◌, ◌++◌, Some, IsTrue, IfSome, OnOk, OnErr, count_by, length, nat_eq, nat_lt, position, remove};
 ghost use Rattle.std.specs.HashMap.{get, hash_map_len, spare};
 ghost use Rattle.std.specs.List.{prefix_len};
-ghost use Rattle.message_store.specs.Stamps.{AreRising, with_entry, without_entry};
+ghost use Rattle.message_store.specs.Stamps.{AreRising, TellsChanged, with_entry, without_entry};
 
 use std::alloc::{AllocError, Global};
 use std::collections::HashMap;
@@ -24,8 +24,8 @@ enum Place {
     Several,
 }
 
-/// Where messages stand in a list, by their ids. Contracts see the ids in the order of the list, and for how many more there is
-/// memory.
+/// Where messages stand in a list, by their ids. Contracts see the ids in the order of the list, and for how many
+/// more there is memory.
 #[derive(Drop)]
 pub(crate) struct MessageIndex {
     entries: Vec<Entry>,
@@ -41,11 +41,17 @@ impl Model for MessageIndex {
 
     ghost Value = { Indexed };
 
-    ghost use Rattle.message_store.specs.Stamps.{ids_of, AreRising, AreBelow, TellsStamps};
+    ghost use Rattle.message_store.specs.Stamps.{listed, AreRising, AreBelow, TellsStamps};
 
-    ghost view = { λ i. record { ids = ids_of i.entries.items; room = i.room } };
+    ghost view = { λ i. record { ids = listed i.entries.items; room = i.room } };
 
-    ghost invariant = { λ i. AreRising i.entries.items × AreBelow i.next i.entries.items × TellsStamps (get nat_eq i.places) i.entries.items × (vec_len i.entries + i.room ≤ vec_capacity i.entries) × (i.room ≤ spare i.places) × (vec_len i.entries + i.room ≤ hash_map_len i.places + spare i.places) × (i.next + i.room < 2 ^ 64) };
+    ghost invariant = { λ i.
+        AreRising i.entries.items × AreBelow i.next i.entries.items
+        × TellsStamps (get nat_eq i.places) i.entries.items
+        × (vec_len i.entries + i.room ≤ vec_capacity i.entries)
+        × (i.room ≤ spare i.places)
+        × (vec_len i.entries + i.room ≤ hash_map_len i.places + spare i.places)
+        × (i.next + i.room < 2 ^ 64) };
 }
 
 impl MessageIndex {
@@ -89,7 +95,8 @@ impl MessageIndex {
         }
     }
 
-    /// Whether at most one stands there with that id. It may say no where that is so, and yes only where it is so.
+    /// Whether at most one stands there with that id. It may say no where that is so, and yes only where it is
+    /// so.
     pub(crate) fn is_alone(&self, id: u64) -> bool
         ensures { IsTrue result → count_by (λ i. i == id) self.now.ids ≤ 1 }
     {
@@ -157,7 +164,8 @@ fn first_of(entries: &[Entry], id: u64) -> Option<usize>
 // Keeps of an id that it has one more entry.
 fn note(places: &mut HashMap<u64, Place>, entry: Entry)
     requires { 0 < spare places.old }
-    ensures places { (id : ℕ) → get nat_eq places.new id ≡ (if entry.id == id then Some (with_entry entry.stamp (get nat_eq places.old id)) else get nat_eq places.old id) }
+    ensures places { TellsChanged entry.id (λ told. Some (with_entry entry.stamp told))
+        (get nat_eq places.old) (get nat_eq places.new) }
     ensures room { spare places.old ≤ spare places.new + 1 }
     ensures all { hash_map_len places.old + spare places.old ≤ hash_map_len places.new + spare places.new }
 {
@@ -172,41 +180,12 @@ fn note(places: &mut HashMap<u64, Place>, entry: Entry)
 
 // Keeps of an id that it has one entry less.
 fn forget(places: &mut HashMap<u64, Place>, id: u64)
-    ensures places { (q : ℕ) → get nat_eq places.new q ≡ (if id == q then without_entry (get nat_eq places.old q) else get nat_eq places.old q) }
+    ensures places { TellsChanged id without_entry (get nat_eq places.old) (get nat_eq places.new) }
     ensures room { spare places.old ≤ spare places.new }
-    ensures all { hash_map_len places.old + spare places.old ≤ hash_map_len places.new + spare places.new + 1 }
+    ensures all { hash_map_len places.old + spare places.old
+        ≤ hash_map_len places.new + spare places.new + 1 }
 {
     if let Some(Place::Alone(_)) = places.get(&id) {
         places.remove(&id);
-    }
-}
-
-#[cfg(test)]
-mod tests {
-    use super::*;
-    use std::test::Fail;
-
-    fn positions(index: &MessageIndex) -> [Option<usize>; 3] {
-        [index.position(5), index.position(7), index.position(9)]
-    }
-
-    #[test]
-    fn places_follow_the_list(rt: HostRuntime) -> Result<(), Fail> {
-        let mut index = MessageIndex::new(rt.alloc());
-        index.reserve(5)?;
-        index.push(5);
-        index.push(7);
-        index.push(9);
-        assert_eq!(rt; positions(&index), [Some(0), Some(1), Some(2)]);
-        index.remove(1);
-        assert_eq!(rt; positions(&index), [Some(0), None, Some(1)]);
-        index.push(7);
-        index.push(7);
-        assert_eq!(rt; positions(&index), [Some(0), Some(2), Some(1)]);
-        assert!(rt; index.is_alone(5));
-        assert!(rt; !index.is_alone(7));
-        index.clear();
-        assert_eq!(rt; positions(&index), [None, None, None]);
-        Ok(())
     }
 }

@@ -1,21 +1,22 @@
 // The messages of a database, while a commit is made.
 ghost use Rattle.std.specs.Prelude.{◌≡◌, ◌==◌, ◌+◌, ◌-◌, ◌<◌, ◌≤◌, [], ◌∷◌, ◌++◌, IfSome, IsTrue, OnOk, OnErr, count_by, filter, find, length, not, option_copied, position};
 ghost use Rattle.std.specs.Str.{bytes_eq};
-ghost use Rattle.queue_rows.specs.Rows.{changed_first, removed_first, with_slot};
+ghost use Rattle.queue_rows.specs.Rows.{with_slot};
 ghost use Rattle.queue_rows.specs.Tables.{in_state, moved_to, retried};
-ghost use Rattle.message_store.specs.Messages.{ids_of};
+ghost use Rattle.message_store.specs.Messages.{ids_of, with_changed};
+ghost use Rattle.message_store.specs.Rows.{filtered, without_first};
 
 use crate::message_index::MessageIndex;
 use crate::open_rows::OpenRows;
 use crate::rows::remove_of_queue;
-use crate::slots::{move_to, set_message_retried, set_message_state};
+use crate::slots::move_to;
 use payload_records::{List, Name};
 use queue_rows::{MsgRow, SlotRow, SlotState};
 use std::alloc::AllocError;
 use std::marker::Model;
 
-/// Messages, with memory for so many more, and an index of them by their numbers. Contracts see the messages and that
-/// count.
+/// Messages, with memory for so many more, and an index of them by their numbers. Contracts see the messages and
+/// that count.
 #[derive(Drop)]
 pub(crate) struct OpenMessages {
     rows: OpenRows<MsgRow>,
@@ -115,7 +116,7 @@ impl OpenMessages {
 
     /// Takes the first message of that number out, if there is one. It takes no memory.
     pub(crate) fn remove_message(&mut self, id: u64)
-        ensures { self.new ≡ record self.old { items = removed_first (λ m. m.id == id) self.old.items } }
+        ensures { self.new ≡ without_first (λ m. m.id == id) self.old }
     {
         if let Some(at) = self.position(id) {
             self.index.remove(at);
@@ -125,7 +126,7 @@ impl OpenMessages {
 
     /// Takes the messages of that queue out. It takes no memory.
     pub(crate) fn remove_of_queue(&mut self, queue: &Name)
-        ensures { self.new ≡ record self.old { items = filter (λ m. not (bytes_eq m.queue queue.now)) self.old.items } }
+        ensures { self.new ≡ filtered (λ m. not (bytes_eq m.queue queue.now)) self.old }
     {
         remove_of_queue(&mut self.rows, queue);
         self.index.clear();
@@ -134,7 +135,7 @@ impl OpenMessages {
 
     /// The slot of the first message of that number is in that state from a moment on. It takes no memory.
     pub(crate) fn set_state(&mut self, id: u64, slot: u64, state: SlotState, at: u64)
-        ensures { self.new ≡ record self.old { items = changed_first (λ m. m.id == id) (with_slot slot (in_state state at)) self.old.items } }
+        ensures { self.new ≡ with_changed id (with_slot slot (in_state state at)) self.old }
     {
         let Some(place) = self.position(id) else {
             return;
@@ -142,11 +143,11 @@ impl OpenMessages {
         let Some(message) = self.rows.get_mut(place) else {
             return;
         };
-        set_message_state(message, slot, state, at);
+        message.set_slot_state(slot, state, at);
     }
 
-    /// The slot of the first message of that number was rolled back so often; it waits, or is ready at once. It takes no
-    /// memory.
+    /// The slot of the first message of that number was rolled back so often; it waits, or is ready at once. It
+    /// takes no memory.
     pub(crate) fn set_retried(
         &mut self,
         id: u64,
@@ -155,7 +156,7 @@ impl OpenMessages {
         until: Option<u64>,
         at: u64,
     )
-        ensures { self.new ≡ record self.old { items = changed_first (λ m. m.id == id) (with_slot slot (retried retries until at)) self.old.items } }
+        ensures { self.new ≡ with_changed id (with_slot slot (retried retries until at)) self.old }
     {
         let Some(place) = self.position(id) else {
             return;
@@ -163,15 +164,15 @@ impl OpenMessages {
         let Some(message) = self.rows.get_mut(place) else {
             return;
         };
-        set_message_retried(message, slot, retries, until, at);
+        message.retry_slot(slot, retries, until, at);
     }
 
-    /// The first message of that number stands in that queue, if there is one, with slot 0 behind its slots. It takes no
-    /// memory.
+    /// The first message of that number stands in that queue, if there is one, with slot 0 behind its slots. It
+    /// takes no memory.
     pub(crate) fn move_to(&mut self, id: u64, queue: Name, at: u64, slots: OpenRows<SlotRow>)
         requires empty { slots.items ≡ [] }
         requires room { IfSome (find (λ m. m.id == id) self.old.items) (λ m. length m.slots < slots.room) }
-        ensures { self.new ≡ record self.old { items = changed_first (λ m. m.id == id) (moved_to queue at) self.old.items } }
+        ensures { self.new ≡ with_changed id (moved_to queue at) self.old }
     {
         let Some(place) = self.position(id) else {
             return;

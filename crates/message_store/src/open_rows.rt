@@ -127,7 +127,8 @@ impl<T> OpenRows<T> {
 
     /// Lends the row at an index to be written, or None past the end. It takes no memory.
     pub(crate) fn get_mut(&mut self, at: usize) -> Option<&mut T>
-        ensures* writes_back { sem 𝓛 (LendsIf (the_row T.row) T.row self.entry result (λ row. record self.old { items = slice_set self.old.items at row }) self.old) }
+        ensures* writes_back { sem 𝓛 (LendsIf (the_row T.row) T.row self.entry result
+            (λ row. record self.old { items = slice_set self.old.items at row }) self.old) }
         ensures value { option_copied_mut result ≡ slice_get self.old.items at }
     {
         self.items.get_mut(at)

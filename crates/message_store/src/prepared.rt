@@ -108,16 +108,21 @@ fn prepare_one(
     })
 }
 
-/// Copies of the changes, each with memory for the slots of the message that it moves.
+/// Copies of the changes, each with memory for the slots of the message that it moves. They stand in the memory of
+/// the spare list, whose items are let go.
 pub(crate) fn prepare(
     messages: &OpenMessages,
     changes: &List<Change>,
+    spare: Vec<Prepared>,
 ) -> Result<Vec<Prepared>, AllocError>
     ensures changes { IfOk result (λ ps. changes_of ps.items ≡ changes.now) }
-    ensures slots { IfOk result (λ ps. All (λ p. HasSlotRoom messages.now.items changes.now p.change p.slots) ps.items) }
+    ensures slots { IfOk result
+        (λ ps. All (λ p. HasSlotRoom messages.now.items changes.now p.change p.slots) ps.items) }
 {
     let added = added_slots(changes)?;
-    let mut prepared = Vec::with_capacity(changes.allocator(), changes.len())?;
+    let mut prepared = spare;
+    prepared.clear();
+    prepared.reserve(changes.len())?;
     for change in changes {
         prepared.push(prepare_one(messages, changes, &added, change)?)?;
     }

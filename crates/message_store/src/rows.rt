@@ -1,7 +1,8 @@
 // Rows of one kind: put in their place, and taken out.
-ghost use Rattle.std.specs.Prelude.{◌≡◌, ◌==◌, ◌&&◌, ◌-◌, Bool, List as Sequence, ℕ, ◌<◌, IfSome, filter, length, not, position};
+ghost use Rattle.std.specs.Prelude.{◌≡◌, ◌==◌, ◌&&◌, ◌-◌, Bool, List as Sequence, ℕ, ◌<◌, IfSome, find, is_some, length, not, option_copied, position};
 ghost use Rattle.std.specs.Str.{bytes_eq};
-ghost use Rattle.queue_rows.specs.Rows.{exception_name, put_by, removed_at, removed_first, is_same_table, is_same_queue, is_same_sub, is_same_schedule};
+ghost use Rattle.queue_rows.specs.Rows.{exception_name, put_by, removed_at, is_same_table, is_same_queue, is_same_sub, is_same_schedule};
+ghost use Rattle.message_store.specs.Rows.{filtered, without_first};
 
 use crate::open_rows::OpenRows;
 use payload_records::Name;
@@ -20,7 +21,7 @@ impl Keyed for TableRow {
     ghost same = { is_same_table };
 
     fn is_same(&self, other: &Self) -> bool {
-        self.name.as_str() == other.name.as_str()
+        self.name == other.name
     }
 }
 
@@ -28,7 +29,7 @@ impl Keyed for QueueRow {
     ghost same = { is_same_queue };
 
     fn is_same(&self, other: &Self) -> bool {
-        self.name.as_str() == other.name.as_str()
+        self.name == other.name
     }
 }
 
@@ -36,7 +37,7 @@ impl Keyed for SubRow {
     ghost same = { is_same_sub };
 
     fn is_same(&self, other: &Self) -> bool {
-        self.queue.as_str() == other.queue.as_str() && self.name.as_str() == other.name.as_str()
+        self.queue == other.queue && self.name == other.name
     }
 }
 
@@ -44,7 +45,7 @@ impl Keyed for ScheduleRow {
     ghost same = { is_same_schedule };
 
     fn is_same(&self, other: &Self) -> bool {
-        self.queue.as_str() == other.queue.as_str() && self.to.as_str() == other.to.as_str()
+        self.queue == other.queue && self.to == other.to
     }
 }
 
@@ -79,7 +80,7 @@ fn table_place(rows: &[TableRow], name: &Name) -> Option<usize>
     ensures first { result ≡ position (λ r. bytes_eq r.name name.now) rows.now }
     ensures within { IfSome result (λ i. i < length rows.now) }
 {
-    rows.iter().position(|r| r.name.as_str() == name.as_str())
+    rows.iter().position(|r| r.name == *name)
 }
 
 /// Where the queue of that name stands.
@@ -87,7 +88,40 @@ pub(crate) fn queue_place(rows: &[QueueRow], name: &Name) -> Option<usize>
     ensures first { result ≡ position (λ q. bytes_eq q.name name.now) rows.now }
     ensures within { IfSome result (λ i. i < length rows.now) }
 {
-    rows.iter().position(|r| r.name.as_str() == name.as_str())
+    rows.iter().position(|r| r.name == *name)
+}
+
+fn queue_row<'a>(rows: &'a [QueueRow], name: &Name) -> Option<&'a QueueRow>
+    ensures { option_copied result ≡ find (λ q. bytes_eq q.name name.now) rows.now }
+{
+    rows.iter().find(|q| q.name == *name)
+}
+
+/// Whether there is a queue of that name.
+pub(crate) fn has_queue(rows: &[QueueRow], name: &Name) -> bool
+    ensures { result ≡ is_some (find (λ q. bytes_eq q.name name.now) rows.now) }
+{
+    match queue_row(rows, name) {
+        Some(_) => true,
+        None => false,
+    }
+}
+
+/// The table of that name.
+pub(crate) fn table_row<'a>(rows: &'a [TableRow], name: &Name) -> Option<&'a TableRow>
+    ensures { option_copied result ≡ find (λ r. bytes_eq r.name name.now) rows.now }
+{
+    rows.iter().find(|r| r.name == *name)
+}
+
+/// Whether there is a table of that name.
+pub(crate) fn has_table(rows: &[TableRow], name: &Name) -> bool
+    ensures { result ≡ is_some (find (λ r. bytes_eq r.name name.now) rows.now) }
+{
+    match table_row(rows, name) {
+        Some(_) => true,
+        None => false,
+    }
 }
 
 fn is_exception_name(queue: &[u8], table: &[u8]) -> bool
@@ -115,19 +149,20 @@ fn sub_place(rows: &[SubRow], queue: &Name, name: &Name) -> Option<usize>
     ensures first { result ≡ position (λ s. bytes_eq s.queue queue.now && bytes_eq s.name name.now) rows.now }
     ensures within { IfSome result (λ i. i < length rows.now) }
 {
-    rows.iter().position(|s| s.queue.as_str() == queue.as_str() && s.name.as_str() == name.as_str())
+    rows.iter()
+        .position(|s| s.queue == *queue && s.name == *name)
 }
 
 fn schedule_place(rows: &[ScheduleRow], queue: &Name, to: &Name) -> Option<usize>
     ensures first { result ≡ position (λ s. bytes_eq s.queue queue.now && bytes_eq s.to to.now) rows.now }
     ensures within { IfSome result (λ i. i < length rows.now) }
 {
-    rows.iter().position(|s| s.queue.as_str() == queue.as_str() && s.to.as_str() == to.as_str())
+    rows.iter().position(|s| s.queue == *queue && s.to == *to)
 }
 
 /// Takes the queue table of that name out, if there is one.
 pub(crate) fn remove_table(rows: &mut OpenRows<TableRow>, name: &Name)
-    ensures { rows.new ≡ record rows.old { items = removed_first (λ r. bytes_eq r.name name.now) rows.old.items } }
+    ensures { rows.new ≡ without_first (λ r. bytes_eq r.name name.now) rows.old }
 {
     let at = table_place(rows.as_slice(), name);
     remove_at(rows, at);
@@ -135,7 +170,7 @@ pub(crate) fn remove_table(rows: &mut OpenRows<TableRow>, name: &Name)
 
 /// Takes the queue of that name out, if there is one.
 pub(crate) fn remove_queue(rows: &mut OpenRows<QueueRow>, name: &Name)
-    ensures { rows.new ≡ record rows.old { items = removed_first (λ q. bytes_eq q.name name.now) rows.old.items } }
+    ensures { rows.new ≡ without_first (λ q. bytes_eq q.name name.now) rows.old }
 {
     let at = queue_place(rows.as_slice(), name);
     remove_at(rows, at);
@@ -143,7 +178,7 @@ pub(crate) fn remove_queue(rows: &mut OpenRows<QueueRow>, name: &Name)
 
 /// Takes the default exception queue of that table out, if there is one.
 pub(crate) fn remove_exception_queue(rows: &mut OpenRows<QueueRow>, table: &Name)
-    ensures { rows.new ≡ record rows.old { items = removed_first (λ q. bytes_eq q.name (exception_name table.now)) rows.old.items } }
+    ensures { rows.new ≡ without_first (λ q. bytes_eq q.name (exception_name table.now)) rows.old }
 {
     let at = exception_place(rows.as_slice(), table);
     remove_at(rows, at);
@@ -151,7 +186,8 @@ pub(crate) fn remove_exception_queue(rows: &mut OpenRows<QueueRow>, table: &Name
 
 /// Takes the subscriber of that queue and name out, if there is one.
 pub(crate) fn remove_sub(rows: &mut OpenRows<SubRow>, queue: &Name, name: &Name)
-    ensures { rows.new ≡ record rows.old { items = removed_first (λ s. bytes_eq s.queue queue.now && bytes_eq s.name name.now) rows.old.items } }
+    ensures { rows.new
+        ≡ without_first (λ s. bytes_eq s.queue queue.now && bytes_eq s.name name.now) rows.old }
 {
     let at = sub_place(rows.as_slice(), queue, name);
     remove_at(rows, at);
@@ -159,7 +195,7 @@ pub(crate) fn remove_sub(rows: &mut OpenRows<SubRow>, queue: &Name, name: &Name)
 
 /// Takes the schedule of that queue and destination out, if there is one.
 pub(crate) fn remove_schedule(rows: &mut OpenRows<ScheduleRow>, queue: &Name, to: &Name)
-    ensures { rows.new ≡ record rows.old { items = removed_first (λ s. bytes_eq s.queue queue.now && bytes_eq s.to to.now) rows.old.items } }
+    ensures { rows.new ≡ without_first (λ s. bytes_eq s.queue queue.now && bytes_eq s.to to.now) rows.old }
 {
     let at = schedule_place(rows.as_slice(), queue, to);
     remove_at(rows, at);
@@ -170,37 +206,37 @@ pub(crate) trait Queued {
     ghost queue_of: { Self → Sequence ℕ };
 
     /// The queue's name.
-    fn queue(&self) -> &str
+    fn queue(&self) -> &Name
         ensures { result.now ≡ queue_of self.now };
 }
 
 impl Queued for SubRow {
     ghost queue_of = { λ r. r.queue };
 
-    fn queue(&self) -> &str {
-        self.queue.as_str()
+    fn queue(&self) -> &Name {
+        &self.queue
     }
 }
 
 impl Queued for ScheduleRow {
     ghost queue_of = { λ r. r.queue };
 
-    fn queue(&self) -> &str {
-        self.queue.as_str()
+    fn queue(&self) -> &Name {
+        &self.queue
     }
 }
 
 impl Queued for MsgRow {
     ghost queue_of = { λ r. r.queue };
 
-    fn queue(&self) -> &str {
-        self.queue.as_str()
+    fn queue(&self) -> &Name {
+        &self.queue
     }
 }
 
 /// Takes the rows of that queue out.
 pub(crate) fn remove_of_queue<R: Queued + Drop>(rows: &mut OpenRows<R>, queue: &Name)
-    ensures { rows.new ≡ record rows.old { items = filter (λ r. not (bytes_eq (R.queue_of r) queue.now)) rows.old.items } }
+    ensures { rows.new ≡ filtered (λ r. not (bytes_eq (R.queue_of r) queue.now)) rows.old }
 {
-    rows.retain(|r| r.queue() != queue.as_str());
+    rows.retain(|r| *r.queue() != *queue);
 }

@@ -8,6 +8,7 @@ ghost use Rattle.message_store.specs.Numbers.{HasNumbers};
 use crate::apply::commit;
 use crate::message_index::MessageIndex;
 use crate::open::OpenTables;
+use crate::prepared::Prepared;
 use exception_queues::MessageTables;
 use payload_records::List;
 use queue_rows::{Change, MsgRow, Tables};
@@ -21,6 +22,8 @@ use std::mem;
 pub struct Store {
     tables: Tables,
     index: MessageIndex,
+    // Empty, with the memory of the largest commit so far, so that a commit needs no list of its own.
+    spare: Vec<Prepared>,
 }
 
 impl Model for Store {
@@ -48,6 +51,7 @@ impl Store {
         Store {
             tables: Tables::new(alloc),
             index: MessageIndex::new(alloc),
+            spare: Vec::new(alloc),
         }
     }
 
@@ -66,8 +70,8 @@ impl Store {
         self.tables.messages.get(at)
     }
 
-    /// Makes the changes of a commit at that moment, in order; an empty list is no commit. All memory is taken before anything
-    /// is changed: at want of memory the tables are as before.
+    /// Makes the changes of a commit at that moment, in order; an empty list is no commit. All memory is taken
+    /// before anything is changed: at want of memory the tables are as before.
     pub fn commit(&mut self, changes: &List<Change>, moment: u64) -> Result<(), AllocError>
         requires numbers { All HasNumbers changes.now }
         ensures ok { OnOk result (self.new ≡ committed_tables self.old changes.now moment) }
@@ -79,12 +83,14 @@ impl Store {
         let alloc = changes.allocator();
         let tables = mem::replace(&mut self.tables, Tables::new(alloc));
         let index = mem::replace(&mut self.index, MessageIndex::new(alloc));
+        let spare = mem::replace(&mut self.spare, Vec::new(alloc));
         let mut open = OpenTables::of(tables, index);
-        let outcome = commit(&mut open, changes, moment);
+        let outcome = commit(&mut open, changes, moment, spare);
         let (tables, index) = open.close();
         self.tables = tables;
         self.index = index;
-        outcome
+        self.spare = outcome?;
+        Ok(())
     }
 }
 

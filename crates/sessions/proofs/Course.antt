@@ -7,7 +7,7 @@ use Rattle.std.proofs.lemmas.Bool.{cases_Bool}
 use Rattle.std.proofs.lemmas.Int.{ints}
 use Rattle.std.proofs.lemmas.List.Elements.{All-head, All-same, All-weaker}
 use Rattle.queue_rows.specs.Rows.{find_table, find_queue}
-use Rattle.queue_rows.specs.Tables.{lane_of, min_int, is_grouped_table, after_change}
+use Rattle.queue_rows.specs.Tables.{lane_of, min_int, is_grouped, lowered_to, after_change}
 use Rattle.queue_rows.specs.Commits.{has_before, lane_at_commit, place_at_commit, completed_in, completed_by, completed, change_of, changes_from}
 use Rattle.queue_rows.specs.declared.tables.Tables.{Tables}
 use Rattle.queue_rows.specs.declared.rows.TableRow.{TableRow}
@@ -18,7 +18,7 @@ use Rattle.queue_rows.specs.declared.session.Pending.TheVariants.{Add, Remove}
 use Rattle.queue_rows.specs.declared.change.Change.{Change}
 use Rattle.queue_rows.specs.declared.change.Change.TheVariants.{Enqueued}
 use Rattle.sessions.specs.Numbers.{IsAbove, IsLowest, IsPendable}
-use Rattle.sessions.specs.Running.{is_addition, with_queues, lowered_to, queues_after}
+use Rattle.sessions.specs.Running.{is_addition, with_queues, queues_after}
 use Rattle.sessions.proofs.Each.{found_each, first_each}
 
 -- ---- only the queue tables and the queues matter
@@ -115,7 +115,7 @@ pub min_above : (n : ℕ) (a b : ℤ) → IsAbove n a → IsAbove n b → IsAbov
 min_above n a b h k = elim (cases_Bool (int_lt a b)) [ inl less ↦ rw less h | inr more ↦ rw more k ]
 
 lowered_above : (tables : List TableRow) (place : List ℤ) (n : ℕ) (queue : QueueRow) → IsAbove n (lane_of place) → IsLowest n queue → IsLowest n (lowered_to tables place queue)
-lowered_above tables place n queue lane low = elim (cases_Bool (is_grouped_table (find (λ r. bytes_eq r.name queue.table) tables))) [
+lowered_above tables place n queue lane low = elim (cases_Bool (is_grouped tables queue)) [
   | inl grouped ↦ rw grouped low
   | inr single ↦ rw single (min_above n queue.lowest (lane_of place) low lane)
 ]

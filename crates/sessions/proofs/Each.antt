@@ -1,5 +1,5 @@
 -- What holds of each row holds of the one that is found, and of each where rows are put, changed and taken out.
-use Rattle.std.proofs.Common.{ℕ, List, [], ◌∷◌, Bool, All, inl, inr, IfSome, suc, zero, Option, Some, None, take, drop}
+use Rattle.std.proofs.Common.{ℕ, List, [], ◌∷◌, Bool, true, false, if◌then◌else◌, All, inl, inr, IfSome, suc, zero, Option, Some, None, take, drop}
 use Rattle.std.specs.Prelude.{find, position, slice_get}
 use Rattle.std.proofs.lemmas.Bool.{cases_Bool}
 use Rattle.std.proofs.lemmas.List.Elements.{All-append, All-drop, All-head, All-push, All-set, All-tail, All-take}
@@ -45,3 +45,8 @@ module _ {X : Type 0} where
 
   pub first_each : (P : X → Type 0) (is_it : X → Bool) (f : X → X) (xs : List X) → ((x : X) → P x → P (f x)) → All P xs → All P (changed_first is_it f xs)
   first_each P is_it f xs keeps all = at_each P f (position is_it xs) xs keeps all
+
+-- what holds of both holds of the one that is chosen
+pub if_each : {X : Type 0} (P : X → Type 0) (b : Bool) (x y : X) → P x → P y → P (if b then x else y)
+if_each P true x y p q = p
+if_each P false x y p q = q

@@ -1,11 +1,11 @@
 -- Commits of changes that are within bounds keep tables within them; and wider bounds hold too.
-use Rattle.std.proofs.Common.{ℕ, ◌==◌, ◌≤◌, ◌^◌, List, [], ◌∷◌, Bool, true, false, not, Option, Some, None, All, IfSome, inl, inr, fold, length, max, arith, if◌then◌else◌}
+use Rattle.std.proofs.Common.{ℕ, ◌==◌, ◌≤◌, ◌^◌, List, [], ◌∷◌, Bool, true, false, not, Option, Some, None, is_some, All, IfSome, inl, inr, fold, length, max, arith, if◌then◌else◌}
 use Rattle.std.specs.Str.{bytes_eq}
 use Rattle.std.proofs.Math.Nat.{max-le}
 use Rattle.std.proofs.lemmas.Bool.{cases_Bool}
 use Rattle.std.proofs.lemmas.List.Elements.{All-filter, All-head, All-push, All-tail, All-weaker}
-use Rattle.queue_rows.specs.Rows.{find_message, is_same_table, is_same_queue, slot_index, with_slot}
-use Rattle.queue_rows.specs.Tables.{lane_of, is_grouped, lowered, in_state, retried, slot_zero, moved_to, move_some, changed_slot, after_change, after_all, after}
+use Rattle.queue_rows.specs.Rows.{find_table, find_queue, find_message, is_same_table, is_same_queue, has_slot, slot_index, with_slot}
+use Rattle.queue_rows.specs.Tables.{lane_of, is_grouped, lowered, in_state, retried, slot_zero, moved_to, move_in, move_some, drop_table, drop_queue, changed_slot, after_change, after_all, after}
 use Rattle.queue_rows.specs.World.{committed_tables}
 use Rattle.queue_rows.specs.declared.tables.Tables.{Tables}
 use Rattle.queue_rows.specs.declared.rows.QueueRow.{QueueRow}
@@ -20,7 +20,7 @@ use Rattle.queue_rows.specs.declared.change.Change.{Change}
 use Rattle.queue_rows.specs.declared.change.Change.TheVariants as changes
 use Rattle.sessions.specs.Within.{IsPlainTable, IsQueueWithin, IsRetriedTo, IsMessageWithin, IsRowWithin, AreWithin, IsWithin}
 use Rattle.sessions.proofs.Course.{min_above}
-use Rattle.sessions.proofs.Each.{found_each, nth_each, first_each, put_each, removed_each}
+use Rattle.sessions.proofs.Each.{found_each, if_each, nth_each, first_each, put_each, removed_each}
 
 -- ---- wider bounds
 
@@ -56,13 +56,13 @@ changes_weaken n g r nn gg rr cs all le_n le_g le_r = All-weaker (IsWithin n g r
 
 -- a queue stays within its bounds where such a message is put into it
 lowered_keeps : (r : ℕ) (t : Tables) (m : MsgRow) → IsMessageWithin r m → (q : QueueRow) → IsQueueWithin q → IsQueueWithin (lowered t m q)
-lowered_keeps r t m h q w = elim (cases_Bool (is_grouped t q)) [
+lowered_keeps r t m h q w = elim (cases_Bool (is_grouped t.tables q)) [
   | inl grouped ↦ rw grouped w
   | inr single ↦ rw single (record { lowest = min_above (2 ^ 62) q.lowest (lane_of m.place) w.lowest h.lane; delay = w.delay })
 ]
 
 slot_keeps : (r slot : ℕ) (f : SlotRow → SlotRow) → ((s : SlotRow) → IsRetriedTo r s → IsRetriedTo r (f s)) → (m : MsgRow) → IsMessageWithin r m → IsMessageWithin r (with_slot slot f m)
-slot_keeps r slot f keeps m h = record { lane = h.lane; retries = nth_each (IsRetriedTo r) f (slot_index m slot) m.slots keeps h.retries }
+slot_keeps r slot f keeps m h = record { lane = h.lane; retries = if_each (All (IsRetriedTo r)) (has_slot m slot) _ m.slots (nth_each (IsRetriedTo r) f (slot_index m slot) m.slots keeps h.retries) h.retries }
 
 retried_keeps : (r retries : ℕ) (until : Option ℕ) (at : ℕ) → retries ≤ r → (s : SlotRow) → IsRetriedTo r s → IsRetriedTo r (retried retries until at s)
 retried_keeps r retries None at le s h = le
@@ -101,9 +101,8 @@ changed_keeps n g r t id slot f keeps w = record {
 state_keeps : (n g r : ℕ) (t : Tables) (id slot : ℕ) (state : SlotState) (at : ℕ) → AreWithin n g r t → AreWithin n g r (changed_slot t id slot (in_state state at))
 state_keeps n g r t id slot state at w = changed_keeps n g r t id slot (in_state state at) (λ s h. h) w
 
-move_keeps : (n g r : ℕ) (t : Tables) (found : Option MsgRow) (queue : List ℕ) (at : ℕ) → IfSome found (IsMessageWithin r) → AreWithin n g r t → AreWithin n g r (move_some t found queue at)
-move_keeps n g r t None queue at h w = w
-move_keeps n g r t (Some m) queue at h w = record {
+move_in_keeps : (n g r : ℕ) (t : Tables) (m : MsgRow) (queue : List ℕ) (at : ℕ) → IsMessageWithin r m → AreWithin n g r t → AreWithin n g r (move_in t m queue at)
+move_in_keeps n g r t m queue at h w = record {
   tables = w.tables;
   queues = first_each IsQueueWithin (λ q. bytes_eq q.name queue) (lowered t (moved_to queue at m)) t.queues (lowered_keeps r t (moved_to queue at m) (moved_keeps r queue at m h)) w.queues;
   messages = first_each (IsMessageWithin r) (λ row. row.id == m.id) (moved_to queue at) t.messages (moved_keeps r queue at) w.messages;
@@ -111,11 +110,21 @@ move_keeps n g r t (Some m) queue at h w = record {
   transaction = w.transaction;
 }
 
+move_keeps : (n g r : ℕ) (t : Tables) (found : Option MsgRow) (queue : List ℕ) (at : ℕ) → IfSome found (IsMessageWithin r) → AreWithin n g r t → AreWithin n g r (move_some t found queue at)
+move_keeps n g r t None queue at h w = w
+move_keeps n g r t (Some m) queue at h w = if_each (AreWithin n g r) (is_some (find_queue t queue)) (move_in t m queue at) t (move_in_keeps n g r t m queue at h w) w
+
+drop_table_keeps : (n g r : ℕ) (t : Tables) (name : List ℕ) → AreWithin n g r t → AreWithin n g r (drop_table t name)
+drop_table_keeps n g r t name w = record { tables = removed_each IsPlainTable _ t.tables w.tables; queues = removed_each IsQueueWithin _ t.queues w.queues; messages = w.messages; next = w.next; transaction = w.transaction }
+
+drop_queue_keeps : (n g r : ℕ) (t : Tables) (name : List ℕ) → AreWithin n g r t → AreWithin n g r (drop_queue t name)
+drop_queue_keeps n g r t name w = record { tables = w.tables; queues = removed_each IsQueueWithin _ t.queues w.queues; messages = All-filter (λ m. not (bytes_eq m.queue name)) (IsMessageWithin r) t.messages w.messages; next = w.next; transaction = w.transaction }
+
 change_keeps : (n g r : ℕ) (t : Tables) (c : Change) → IsWithin n g r c → AreWithin n g r t → AreWithin n g r (after_change t c)
 change_keeps n g r t (changes.PutTable row) h w = record { tables = put_each IsPlainTable is_same_table row t.tables h w.tables; queues = w.queues; messages = w.messages; next = w.next; transaction = w.transaction }
-change_keeps n g r t (changes.DropTable name) h w = record { tables = removed_each IsPlainTable _ t.tables w.tables; queues = removed_each IsQueueWithin _ t.queues w.queues; messages = w.messages; next = w.next; transaction = w.transaction }
+change_keeps n g r t (changes.DropTable name) h w = if_each (AreWithin n g r) (is_some (find_table t name)) (drop_table t name) t (drop_table_keeps n g r t name w) w
 change_keeps n g r t (changes.PutQueue row) h w = record { tables = w.tables; queues = put_each IsQueueWithin is_same_queue row t.queues h w.queues; messages = w.messages; next = w.next; transaction = w.transaction }
-change_keeps n g r t (changes.DropQueue name) h w = record { tables = w.tables; queues = removed_each IsQueueWithin _ t.queues w.queues; messages = All-filter (λ m. not (bytes_eq m.queue name)) (IsMessageWithin r) t.messages w.messages; next = w.next; transaction = w.transaction }
+change_keeps n g r t (changes.DropQueue name) h w = if_each (AreWithin n g r) (is_some (find_queue t name)) (drop_queue t name) t (drop_queue_keeps n g r t name w) w
 change_keeps n g r t (changes.PutSub row) h w = others_keep n g r t _ _ _ w
 change_keeps n g r t (changes.DropSub queue name) h w = others_keep n g r t _ _ _ w
 change_keeps n g r t (changes.PutSchedule row) h w = others_keep n g r t _ _ _ w

@@ -1,10 +1,10 @@
 -- What a rollback commits counts one retry more.
 use Rattle.std.proofs.Common.{◌≡◌, ℕ, ◌+◌, ◌≤◌, List, [], ◌∷◌, Option, Some, None, Result, Ok, Err, IfOk, All, IfSome, inl, inr, arith}
-use Rattle.std.specs.Prelude.{◌==◌, nat_lt}
+use Rattle.std.specs.Prelude.{◌==◌, nat_lt, slice_get}
 use Rattle.std.specs.List.{flat_map}
 use Rattle.std.proofs.lemmas.Bool.{cases_Bool}
 use Rattle.std.proofs.lemmas.List.Elements.{All-append, All-cons, All-nil, All-same}
-use Rattle.queue_rows.specs.Rows.{find_queue, find_message, slot_index, slot_of}
+use Rattle.queue_rows.specs.Rows.{find_queue, find_message, has_slot, slot_index, slot_of}
 use Rattle.queue_rows.specs.Settling.{is_exception, settled}
 use Rattle.queue_rows.specs.Transactions.{retry_until, expiry_of, retried_to, retry_slot, retry_in, retry_message, retry_of}
 use Rattle.queue_rows.specs.declared.tables.Tables.{Tables}
@@ -16,7 +16,7 @@ use Rattle.queue_rows.specs.declared.session.Pending.TheVariants.{Add, Remove}
 use Rattle.queue_rows.specs.declared.change.Change.{Change}
 use Rattle.queue_rows.specs.declared.change.Change.TheVariants as changes
 use Rattle.sessions.specs.Within.{IsRetriedTo, IsMessageWithin, IsWithin}
-use Rattle.sessions.proofs.Each.{found_each, got_each}
+use Rattle.sessions.proofs.Each.{found_each, got_each, if_each}
 use Rattle.sessions.proofs.Committing.{settled_within}
 
 expiry_within : (n g r : ℕ) (queue : QueueRow) (retries moment id slot : ℕ) → All (IsWithin n g r) (expiry_of queue retries moment id slot)
@@ -34,11 +34,14 @@ slot_within : (n g r : ℕ) (queue : QueueRow) (row : Option SlotRow) (moment id
 slot_within n g r queue None moment id slot h = All-nil (IsWithin n g (r + 1))
 slot_within n g r queue (Some s) moment id slot h = to_within n g (r + 1) queue (s.retries + 1) moment id slot (omega (arith, h))
 
+found_within : (r slot : ℕ) (m : MsgRow) → IsMessageWithin r m → IfSome (slot_of m slot) (IsRetriedTo r)
+found_within r slot m h = if_each (λ o. IfSome o (IsRetriedTo r)) (has_slot m slot) (slice_get m.slots (slot_index m slot)) None (got_each (IsRetriedTo r) m.slots (slot_index m slot) h.retries) tt
+
 in_within : (n g r : ℕ) (queue : Option QueueRow) (m : MsgRow) (moment id slot : ℕ) → IsMessageWithin r m → All (IsWithin n g (r + 1)) (retry_in queue m moment id slot)
 in_within n g r None m moment id slot h = All-nil (IsWithin n g (r + 1))
 in_within n g r (Some queue) m moment id slot h = elim (cases_Bool (is_exception queue.kind)) [
   | inl exception ↦ rw exception (All-nil (IsWithin n g (r + 1)))
-  | inr normal ↦ rw normal (slot_within n g r queue (slot_of m slot) moment id slot (got_each (IsRetriedTo r) m.slots (slot_index m slot) h.retries))
+  | inr normal ↦ rw normal (slot_within n g r queue (slot_of m slot) moment id slot (found_within r slot m h))
 ]
 
 message_within : (n g r : ℕ) (t : Tables) (m : Option MsgRow) (moment id slot : ℕ) → IfSome m (IsMessageWithin r) → All (IsWithin n g (r + 1)) (retry_message t m moment id slot)

@@ -1,10 +1,11 @@
 -- What the effect of a statement is for its session.
 use Rattle.std.specs.Prelude.{◌++◌, ℕ, List, [], ◌∷◌, not, filter, Option, Some, None}
-use Rattle.row_locks.specs.declared.mark.Mark.{Mark}
-use Rattle.row_locks.specs.Marks.{taken}
+use Rattle.slot_marks.specs.declared.mark.Mark.{Mark}
+use Rattle.slot_marks.specs.Marks.{taken}
 use Rattle.queue_rows.specs.Session.{Session, is_position, positioned, without_mark}
 use Rattle.queue_rows.specs.Meaning.{Meaning, answers, parks, first_look}
 use Rattle.queue_rows.specs.Turns.{ids_taken}
+use Rattle.queue_rows.specs.declared.change.Change.{Change}
 use Rattle.queue_rows.specs.declared.session.Pending.{Pending}
 use Rattle.queue_rows.specs.declared.session.Position.{Position}
 use Rattle.sessions.specs.declared.state.Effect.{Effect}
@@ -12,6 +13,17 @@ use Rattle.sessions.specs.declared.state.Verdict.{Verdict}
 use Rattle.sessions.specs.declared.state.Verdict.TheVariants as verdicts
 use Rattle.sessions.specs.declared.state.PositionMove.{PositionMove}
 use Rattle.sessions.specs.declared.state.PositionMove.TheVariants as moves
+
+-- a statement that comes to this, and of which this is committed at once, with nothing besides
+abbrev pub plain_effect : Verdict → List Change → Effect
+plain_effect verdict commit = record {
+  verdict = verdict;
+  commit = commit;
+  pend = None;
+  mark = None;
+  unmark = None;
+  position = moves.Keep;
+}
 
 -- where a session stands that a statement moves, which asked for that queue and consumer
 abbrev pub positions_after : PositionMove → List ℕ → Option (List ℕ) → List Position → List Position

@@ -1,7 +1,7 @@
 -- What a session keeps, and what the locks of its database show of it, beside the sessions of the definitions.
 use Rattle.std.specs.Prelude.{◌≡◌, ◌⊎◌, ℕ, List, [], Some, slice_get}
 use Rattle.aq_base.specs.declared.DbId.{DbId}
-use Rattle.row_locks.specs.Marks.{SessionMarks, marks_of}
+use Rattle.slot_marks.specs.Marks.{SessionMarks, marks_of}
 use Rattle.queue_rows.specs.Session.{Session}
 use Rattle.sessions.specs.declared.state.SessionState.{SessionState}
 

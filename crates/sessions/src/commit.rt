@@ -60,7 +60,7 @@ fn changes_from(
     let mut changes = List::new(alloc);
     for pending in pending {
         let change = change_of(alloc, tables, &queues, stamp, pending)?;
-        lower_by(&tables.tables, &mut queues, &change);
+        lower_by(tables, &mut queues, &change);
         changes.push(change)?;
     }
     Ok(changes)

@@ -92,7 +92,7 @@ fn completed_by(
 fn queue_among<'a>(queues: &'a List<QueueRow>, name: &Name) -> Option<&'a QueueRow>
     ensures { option_copied result ≡ find (λ r. bytes_eq r.name name.now) queues.now }
 {
-    queues.iter().find(|r| r.name.as_str() == name.as_str())
+    queues.iter().find(|r| r.name == *name)
 }
 
 #[tactic(auto, using(crate::proofs::Each::found_each))]

@@ -11,6 +11,3 @@ mod state;
 pub use commit::{changes_of, commit_changes};
 pub use rollback::rollback_changes;
 pub use state::{Effect, PositionMove, SessionState, Verdict};
-
-#[cfg(test)]
-mod tests;

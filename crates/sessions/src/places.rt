@@ -1,23 +1,12 @@
 // The places that messages get when they are committed.
 ghost use Rattle.std.specs.Prelude.{◌≡◌, ◌<◌, ◌≤◌, ◌^◌, ◌-◌, map, IfOk};
-ghost use Rattle.queue_rows.specs.Tables.{lane_of};
 ghost use Rattle.queue_rows.specs.Commits.{column_value, place_of, has_before, lane_at_commit, place_at_commit};
 ghost use Rattle.sessions.specs.Numbers.{IsAbove, IsAddable};
 
 use payload_records::Copied;
 use place_keys::{Column, Place, SortList};
-use queue_rows::{MsgRow, QueueRow, TableRow};
+use queue_rows::{MsgRow, QueueRow, TableRow, lane_of};
 use std::alloc::{AllocError, Global};
-
-/// The lane of a place.
-pub fn lane_of(numbers: &[i64]) -> i64
-    ensures { result ≡ lane_of numbers.now }
-{
-    match numbers.first() {
-        Some(lane) => *lane,
-        None => 0,
-    }
-}
 
 fn column_value(priority: i64, enqueued: u64, committed: u64, column: Column) -> i64
     requires enqueued { enqueued ≤ 2 ^ 62 }
@@ -63,7 +52,7 @@ fn lane_at_commit(table: &TableRow, queue: &QueueRow, group: u64, place: &Place)
     if table.grouped {
         return group as i64;
     }
-    if lane_of(place.numbers()) < 0 {
+    if lane_of(place) < 0 {
         queue.lowest - 1
     } else {
         0

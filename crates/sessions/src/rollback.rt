@@ -6,7 +6,7 @@ ghost use Rattle.sessions.specs.Numbers.{IsCountable, AreCountable, IsDelaying};
 ghost use Rattle.sessions.specs.Within.{IsWithin, IsMessageWithin};
 
 use crate::SessionState;
-use exception_queues::{MessageTables, find_queue, is_exception, settle, slot_of};
+use exception_queues::{MessageTables, find_queue, is_exception, settle};
 use payload_records::List;
 use queue_rows::{Change, MsgRow, Pending, QueueRow, SlotRow, Tables};
 use std::alloc::AllocError;
@@ -105,7 +105,7 @@ fn retry_in(
     if is_exception(queue.kind) {
         return Ok(());
     }
-    retry_slot(changes, queue, slot_of(message, slot), moment, id, slot)
+    retry_slot(changes, queue, message.slot(slot), moment, id, slot)
 }
 
 #[tactic(auto, using(crate::proofs::Each::found_each))]

@@ -1,53 +1,40 @@
 // The queues as the changes of a commit leave them, one after another.
-ghost use Rattle.std.specs.Prelude.{◌≡◌, ◌==◌, ◌<◌, IfSome, find, length, option_copied, position};
+ghost use Rattle.std.specs.Prelude.{◌≡◌, ◌==◌, ◌<◌, IfSome, length, option_copied, position};
 ghost use Rattle.std.specs.Str.{bytes_eq};
 ghost use Rattle.queue_rows.specs.Rows.{changed_first};
-ghost use Rattle.queue_rows.specs.Tables.{lane_of, min_int, is_grouped_table};
-ghost use Rattle.sessions.specs.Running.{lowered_to, queues_after};
+ghost use Rattle.queue_rows.specs.Tables.{is_grouped, lowered_to};
+ghost use Rattle.sessions.specs.Running.{queues_after};
 
-use crate::places::lane_of;
+use exception_queues::find_table;
 use payload_records::{List, Name};
 use place_keys::Place;
-use queue_rows::{Change, MsgRow, QueueRow, TableRow};
+use queue_rows::{Change, MsgRow, QueueRow, Tables};
 
 fn queue_place(queues: &List<QueueRow>, name: &Name) -> Option<usize>
     ensures first { result ≡ position (λ q. bytes_eq q.name name.now) queues.now }
     ensures within { IfSome result (λ i. i < length queues.now) }
 {
-    queues.iter().position(|q| q.name.as_str() == name.as_str())
+    queues.iter().position(|q| q.name == *name)
 }
 
-fn table_among<'a>(tables: &'a List<TableRow>, name: &Name) -> Option<&'a TableRow>
-    ensures { option_copied result ≡ find (λ r. bytes_eq r.name name.now) tables.now }
+fn is_grouped(tables: &Tables, queue: &QueueRow) -> bool
+    ensures { result ≡ is_grouped tables.now.tables queue.now }
 {
-    tables.iter().find(|r| r.name.as_str() == name.as_str())
-}
-
-fn is_grouped(tables: &List<TableRow>, table: &Name) -> bool
-    ensures { result ≡ is_grouped_table (find (λ r. bytes_eq r.name table.now) tables.now) }
-{
-    match table_among(tables, table) {
-        Some(row) => row.grouped,
+    match find_table(tables, &queue.table) {
+        Some(table) => table.grouped,
         None => false,
     }
 }
 
-fn lowest_with(queue: &QueueRow, place: &Place) -> i64
-    ensures { result ≡ min_int queue.now.lowest (lane_of place.now) }
+fn lower(tables: &Tables, place: &Place, queue: &mut QueueRow)
+    ensures { queue.new ≡ lowered_to tables.now.tables place.now queue.old }
 {
-    queue.lowest.min(lane_of(place.numbers()))
+    queue.lower(is_grouped(tables, queue), place);
 }
 
-fn lower(tables: &List<TableRow>, place: &Place, queue: &mut QueueRow)
-    ensures { queue.new ≡ lowered_to tables.now place.now queue.old }
-{
-    if !is_grouped(tables, &queue.table) {
-        queue.lowest = lowest_with(queue, place);
-    }
-}
-
-fn lower_for(tables: &List<TableRow>, queues: &mut List<QueueRow>, message: &MsgRow)
-    ensures { queues.new ≡ changed_first (λ q. bytes_eq q.name message.now.queue) (lowered_to tables.now message.now.place) queues.old }
+fn lower_for(tables: &Tables, queues: &mut List<QueueRow>, message: &MsgRow)
+    ensures { queues.new ≡ changed_first (λ q. bytes_eq q.name message.now.queue)
+        (lowered_to tables.now.tables message.now.place) queues.old }
 {
     let Some(index) = queue_place(queues, &message.queue) else {
         return;
@@ -58,8 +45,8 @@ fn lower_for(tables: &List<TableRow>, queues: &mut List<QueueRow>, message: &Msg
 }
 
 /// Lowers the queue into which a change puts a message, as the change does in the tables.
-pub fn lower_by(tables: &List<TableRow>, queues: &mut List<QueueRow>, change: &Change)
-    ensures { queues.new ≡ queues_after tables.now queues.old change.now }
+pub fn lower_by(tables: &Tables, queues: &mut List<QueueRow>, change: &Change)
+    ensures { queues.new ≡ queues_after tables.now.tables queues.old change.now }
 {
     if let Change::Enqueued(message) = change {
         lower_for(tables, queues, message);

@@ -1,8 +1,13 @@
 // What a session keeps, and what a statement of it does.
+ghost use Rattle.std.specs.Prelude.{◌≡◌, []};
+ghost use Rattle.sessions.specs.Effects.{plain_effect};
+ghost use Rattle.sessions.specs.declared.state.Verdict.TheVariants.{Answer};
+
 use aq_base::DbId;
 use payload_records::List;
 use queue_rows::{Change, Pending, Position, Reply};
-use row_locks::Mark;
+use slot_marks::Mark;
+use std::alloc::Global;
 
 /// What a session keeps from statement to statement. Its marks stand in the locks of its database.
 #[derive(Drop)]
@@ -38,6 +43,29 @@ pub struct Effect {
     pub unmark: Option<Mark>,
     /// Where the session stands afterwards.
     pub position: PositionMove,
+}
+
+impl Effect {
+    /// That it comes to this, and this is committed at once, with nothing besides. It takes no memory.
+    pub fn plain(verdict: Verdict, commit: List<Change>) -> Effect
+        ensures { result ≡ plain_effect verdict commit }
+    {
+        Effect {
+            verdict,
+            commit,
+            pend: None,
+            mark: None,
+            unmark: None,
+            position: PositionMove::Keep,
+        }
+    }
+
+    /// That it is answered so, with nothing besides. It takes no memory.
+    pub fn answered(alloc: Global, reply: Reply) -> Effect
+        ensures { result ≡ plain_effect (Answer reply) [] }
+    {
+        Effect::plain(Verdict::Answer(reply), List::new(alloc))
+    }
 }
 
 /// What becomes of a statement.
