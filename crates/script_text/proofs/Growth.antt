@@ -8,7 +8,7 @@ use Rattle.std.proofs.lemmas.Option.{slice_get-get_or}
 use Rattle.std.proofs.lemmas.Grind.{common_steps}
 use Rattle.aq_base.specs.declared.DbId.TheVariants.{Home}
 use Rattle.queue_rows.specs.Rows.{set_some, changed_some}
-use Rattle.queue_rows.specs.Built.{IsBuilt, IsBuiltScript, IsShortScript}
+use Rattle.built_statements.specs.Built.{IsBuilt, IsBuiltScript, IsShortScript}
 use Rattle.queue_rows.specs.declared.statement.Statement.{Statement}
 use Rattle.queue_rows.specs.declared.history.SessionScript.{SessionScript}
 use Rattle.script_text.specs.Script.{new_session, statement_count, with_statement, with_statement_at, AreWithinLimits}

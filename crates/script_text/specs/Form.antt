@@ -21,10 +21,14 @@ verb_of word = if bytes_eq word (codes "create-table") then Some verbs.CreateTab
 -- the members that say what a statement does, and to what
 abbrev pub is_key_of_verb : Verb → List ℕ → Bool
 is_key_of_verb verbs.CreateTable key = bytes_eq key (codes "table") || bytes_eq key (codes "fields")
-is_key_of_verb verbs.CreateQueue key = bytes_eq key (codes "queue") || bytes_eq key (codes "table") || bytes_eq key (codes "max_retries")
+is_key_of_verb verbs.CreateQueue key =
+    bytes_eq key (codes "queue") || bytes_eq key (codes "table") || bytes_eq key (codes "max_retries")
 is_key_of_verb verbs.StartQueue key = bytes_eq key (codes "queue")
-is_key_of_verb verbs.Enqueue key = bytes_eq key (codes "queue") || bytes_eq key (codes "payload") || bytes_eq key (codes "visibility")
-is_key_of_verb verbs.Dequeue key = bytes_eq key (codes "queue") || bytes_eq key (codes "mode") || bytes_eq key (codes "navigation") || bytes_eq key (codes "visibility")
+is_key_of_verb verbs.Enqueue key =
+    bytes_eq key (codes "queue") || bytes_eq key (codes "payload") || bytes_eq key (codes "visibility")
+is_key_of_verb verbs.Dequeue key =
+    bytes_eq key (codes "queue") || bytes_eq key (codes "mode") || bytes_eq key (codes "navigation")
+    || bytes_eq key (codes "visibility")
 is_key_of_verb verbs.Commit key = false
 is_key_of_verb verbs.Rollback key = false
 

@@ -6,7 +6,7 @@ use Rattle.serde_json.specs.Data.{Data}
 use Rattle.serde_json.specs.Find.{get}
 use Rattle.serde_json.specs.Read.{read}
 use Rattle.aq_base.specs.declared.limits.TheConstants.{LINE_LIMIT}
-use Rattle.queue_rows.specs.Built.{IsBuilt}
+use Rattle.built_statements.specs.Built.{IsBuilt}
 use Rattle.script_text.specs.declared.form.Form.TheVariants.{Declaration}
 use Rattle.script_text.specs.declared.line.Line.{Line}
 use Rattle.script_text.specs.declared.line.Line.TheVariants as lines
@@ -30,11 +30,15 @@ asking d = option_and_then (λ session. option_map (λ asked. lines.Asked sessio
 
 -- a line with a member for a session's name declares it, and any other one has a session ask a statement
 unfoldable pub line_from : Data → Option Line
-line_from d = if is_some (get (codes "session") d) then (if has_form Declaration d then declaration d else None) else asking d
+line_from d = if is_some (get (codes "session") d)
+    then (if has_form Declaration d then declaration d else None)
+    else asking d
 
 -- a line, without its line feed
 unfoldable pub line_of : List ℕ → Option Line
-line_of line = if nat_le (length line) LINE_LIMIT then (if list_all is_blank line then Some lines.Blank else option_and_then line_from (json_of line)) else None
+line_of line = if nat_le (length line) LINE_LIMIT
+    then (if list_all is_blank line then Some lines.Blank else option_and_then line_from (json_of line))
+    else None
 
 -- what a line asks has a meaning so far
 abbrev pub IsBuiltLine : Line → Type 0

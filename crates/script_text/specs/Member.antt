@@ -58,7 +58,9 @@ fields_at d = option_and_then record_type (get (codes "fields") d)
 
 -- transcripts say what was done on the side under these names
 abbrev pub is_reserved : List ℕ → Bool
-is_reserved name = bytes_eq name (codes "timer") || bytes_eq name (codes "offer") || bytes_eq name (codes "arrive") || bytes_eq name (codes "confirm")
+is_reserved name =
+    bytes_eq name (codes "timer") || bytes_eq name (codes "offer") || bytes_eq name (codes "arrive")
+    || bytes_eq name (codes "confirm")
 
 abbrev pub as_session : List ℕ → Option (List ℕ)
 as_session name = if is_reserved name then None else Some name
@@ -88,7 +90,8 @@ abbrev pub payload_at : Data → Option Payload
 payload_at d = option_map payload_of (get (codes "payload") d)
 
 abbrev pub visibility_of : List ℕ → Option Visibility
-visibility_of text = if bytes_eq text (codes "on_commit") then Some OnCommit else (if bytes_eq text (codes "immediate") then Some Immediate else None)
+visibility_of text = if bytes_eq text (codes "on_commit") then Some OnCommit
+    else (if bytes_eq text (codes "immediate") then Some Immediate else None)
 
 abbrev pub visibility_in : Data → Option Visibility
 visibility_in d = option_and_then visibility_of (as_str d)
@@ -110,7 +113,8 @@ mode_at d = or_default modes.Remove mode_in (given_at (codes "mode") d)
 
 -- `next_transaction` has no meaning so far, as there are no groups
 abbrev pub navigation_of : List ℕ → Option Navigation
-navigation_of text = if bytes_eq text (codes "next") then Some navigations.Next else (if bytes_eq text (codes "first") then Some navigations.First else None)
+navigation_of text = if bytes_eq text (codes "next") then Some navigations.Next
+    else (if bytes_eq text (codes "first") then Some navigations.First else None)
 
 abbrev pub navigation_in : Data → Option Navigation
 navigation_in d = option_and_then navigation_of (as_str d)

@@ -4,7 +4,7 @@ use Rattle.std.specs.List.{slice_split, sum_by, count_by}
 use Rattle.std.specs.Str.{bytes_eq}
 use Rattle.aq_base.specs.declared.DbId.{DbId}
 use Rattle.aq_base.specs.declared.limits.TheConstants.{INPUT_LIMIT, SESSION_LIMIT, STATEMENT_LIMIT}
-use Rattle.queue_rows.specs.Built.{IsBuiltScript}
+use Rattle.built_statements.specs.Built.{IsBuiltScript}
 use Rattle.queue_rows.specs.Rows.{changed_nth}
 use Rattle.queue_rows.specs.declared.statement.Statement.{Statement}
 use Rattle.queue_rows.specs.declared.history.SessionScript.{SessionScript}
@@ -28,7 +28,9 @@ new_session name at = record { name = name; at = at; statements = [] }
 
 -- a session of another name goes last, where one more may be declared
 abbrev pub with_session : List ℕ → DbId → List SessionScript → Option (List SessionScript)
-with_session name at sessions = if nat_le SESSION_LIMIT (length sessions) || is_some (position (is_of name) sessions) then None else Some (sessions ++ new_session name at ∷ [])
+with_session name at sessions = if nat_le SESSION_LIMIT (length sessions) || is_some (position (is_of name) sessions)
+    then None
+    else Some (sessions ++ new_session name at ∷ [])
 
 -- a session, with one more statement
 abbrev pub with_statement : Statement → SessionScript → SessionScript
@@ -39,7 +41,9 @@ with_statement_at statement sessions at = changed_nth (with_statement statement)
 
 -- a session that was declared asks one more statement, where the script may have one more
 abbrev pub with_statement_of : List ℕ → Statement → List SessionScript → Option (List SessionScript)
-with_statement_of name statement sessions = if nat_le STATEMENT_LIMIT (statement_count sessions) then None else option_map (with_statement_at statement sessions) (position (is_of name) sessions)
+with_statement_of name statement sessions = if nat_le STATEMENT_LIMIT (statement_count sessions)
+    then None
+    else option_map (with_statement_at statement sessions) (position (is_of name) sessions)
 
 -- ---- line by line
 
@@ -60,7 +64,9 @@ then_on (Err n) f = Err n
 -- what lines make of the sessions so far, or the number of the first bad one
 unfoldable pub with_lines : ℕ → List SessionScript → List (List ℕ) → Result (List SessionScript) ℕ
 with_lines number sessions [] = Ok sessions
-with_lines number sessions (line ∷ more) = then_on (or_bad number (option_and_then (with_line sessions) (line_of line))) (λ next. with_lines (number + 1) next more)
+with_lines number sessions (line ∷ more) =
+    then_on (or_bad number (option_and_then (with_line sessions) (line_of line)))
+    (λ next. with_lines (number + 1) next more)
 
 abbrev pub is_line_feed : ℕ → Bool
 is_line_feed byte = byte == 10
@@ -76,7 +82,9 @@ line_feeds bytes = count_by is_line_feed bytes
 
 -- past the limit of an input a text is bad at the line of the first byte too many, whatever stands before
 unfoldable pub script : List ℕ → Result (List SessionScript) ℕ
-script bytes = if nat_le (length bytes) INPUT_LIMIT then with_lines 1 [] (lines_of bytes) else Err (1 + line_feeds (take INPUT_LIMIT bytes))
+script bytes = if nat_le (length bytes) INPUT_LIMIT
+    then with_lines 1 [] (lines_of bytes)
+    else Err (1 + line_feeds (take INPUT_LIMIT bytes))
 
 -- the fault is the first bad line, or memory ran out
 abbrev pub IsFaultOf : {A : Type 0} → ScriptFault → Result A ℕ → Type 0

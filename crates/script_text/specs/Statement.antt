@@ -20,11 +20,17 @@ use Rattle.script_text.specs.Member.{text_at, name_at, table_at, fields_at, max_
 
 -- sorted by the moment of the enqueue, for one consumer, and with no groups
 unfoldable pub create_table : Data → Option Statement
-create_table d = option_and_then (λ table. option_map (λ fields. statements.Admin (asks.CreateTable table fields (EnqTime ∷ []) false false)) (fields_at d)) (table_at d)
+create_table d =
+    option_and_then (λ table.
+    option_map (λ fields. statements.Admin (asks.CreateTable table fields (EnqTime ∷ []) false false))
+    (fields_at d)) (table_at d)
 
 -- a normal queue, with no delay before a retry and no retention
 unfoldable pub create_queue : Data → Option Statement
-create_queue d = option_and_then (λ queue. option_and_then (λ table. option_map (λ max_retries. statements.Admin (asks.CreateQueue queue table Normal max_retries 0 0)) (max_retries_at d)) (table_at d)) (name_at (codes "queue") d)
+create_queue d =
+    option_and_then (λ queue. option_and_then (λ table.
+    option_map (λ max_retries. statements.Admin (asks.CreateQueue queue table Normal max_retries 0 0))
+    (max_retries_at d)) (table_at d)) (name_at (codes "queue") d)
 
 -- it gives messages, and takes them where it is a normal queue
 unfoldable pub start_queue : Data → Option Statement
@@ -43,11 +49,15 @@ plain_enqueue queue payload visibility = record {
   exception_queue = None;
   before = None;
   top = false;
+  props = [];
 }
 
 -- of priority 1, with neither a delay nor an end, for whom the queue says, and at its place
 unfoldable pub enqueue : Data → Option Statement
-enqueue d = option_and_then (λ queue. option_and_then (λ visibility. option_map (λ payload. statements.Enqueue (plain_enqueue queue payload visibility)) (payload_at d)) (visibility_at d)) (name_at (codes "queue") d)
+enqueue d =
+    option_and_then (λ queue. option_and_then (λ visibility.
+    option_map (λ payload. statements.Enqueue (plain_enqueue queue payload visibility))
+    (payload_at d)) (visibility_at d)) (name_at (codes "queue") d)
 
 abbrev pub plain_dequeue : List ℕ → Mode → Navigation → Visibility → Dequeue
 plain_dequeue queue mode navigation visibility = record {
@@ -64,7 +74,10 @@ plain_dequeue queue mode navigation visibility = record {
 
 -- for the one consumer, without waiting, and with neither an id nor a pattern nor a condition
 unfoldable pub dequeue : Data → Option Statement
-dequeue d = option_and_then (λ queue. option_and_then (λ mode. option_and_then (λ navigation. option_map (λ visibility. statements.Dequeue (plain_dequeue queue mode navigation visibility)) (visibility_at d)) (navigation_at d)) (mode_at d)) (name_at (codes "queue") d)
+dequeue d =
+    option_and_then (λ queue. option_and_then (λ mode. option_and_then (λ navigation.
+    option_map (λ visibility. statements.Dequeue (plain_dequeue queue mode navigation visibility))
+    (visibility_at d)) (navigation_at d)) (mode_at d)) (name_at (codes "queue") d)
 
 abbrev pub statement_of : Verb → Data → Option Statement
 statement_of verbs.CreateTable d = create_table d

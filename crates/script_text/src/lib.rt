@@ -9,8 +9,6 @@ mod member;
 mod reading;
 mod sessions;
 mod statement;
-#[cfg(test)]
-mod tests;
 
 pub use fault::ScriptFault;
 pub use laws::script_needs_only_the_front;

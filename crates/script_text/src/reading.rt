@@ -1,6 +1,6 @@
 // A whole script.
 ghost use Rattle.std.specs.Prelude.{◌≡◌, ◌≤◌, ◌<◌, ◌+◌, [], ◌∷◌, IfOk, IfErr, IfSome, Ok, length, position, option_map, All};
-ghost use Rattle.queue_rows.specs.Built.{IsShortScript};
+ghost use Rattle.built_statements.specs.Built.{IsShortScript};
 ghost use Rattle.script_text.specs.Script.{is_line_feed, lines_of, lines_left, room_of, with_lines, script, line_feeds, IsFaultOf, AreWithinLimits};
 ghost use Rattle.aq_base.specs.declared.limits.TheConstants.{INPUT_LIMIT};
 
@@ -34,7 +34,7 @@ fn read_lines(alloc: Global, bytes: &[u8]) -> Result<Sessions, ScriptFault>
     ensures ok { IfOk result (λ sessions. with_lines 1 [] (lines_of bytes.now) ≡ Ok sessions) }
     ensures bad { IfErr result (λ fault. IsFaultOf fault (with_lines 1 [] (lines_of bytes.now))) }
 {
-    let mut sessions = Sessions::new(alloc);
+    let mut sessions = Sessions::new(alloc, count_line_feeds(bytes) as usize + 1);
     let mut number = 1u64;
     let mut rest = Some(bytes);
     while let Some(text) = rest {

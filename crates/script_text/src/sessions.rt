@@ -1,6 +1,6 @@
 // The sessions of a script, as its lines make them one after the other.
 ghost use Rattle.std.specs.Prelude.{◌≡◌, ◌≤◌, ◌<◌, [], position, length, slice_get, slice_set, option_and_then, IfSome, OnOk, OnErr, IsErrOf, Some, None, All};
-ghost use Rattle.queue_rows.specs.Built.{IsBuilt, IsShortScript};
+ghost use Rattle.built_statements.specs.Built.{IsBuilt, IsShortScript};
 ghost use Rattle.script_text.specs.Line.{line_of, IsBuiltLine};
 ghost use Rattle.script_text.specs.Script.{is_of, with_session, with_statement, with_statement_at, with_statement_of, with_line, AreWithinLimits};
 
@@ -12,11 +12,13 @@ use queue_rows::{SessionScript, Statement};
 use std::alloc::{AllocError, Global};
 use std::marker::Model;
 
-/// The sessions that were declared so far, each with what it asks, and how many statements that is together.
+/// The sessions that were declared so far, each with what it asks, how many statements that is together, and the most lines
+/// that are to come.
 #[derive(Drop)]
 pub struct Sessions {
     list: Vec<SessionScript>,
     asked: usize,
+    lines: usize,
 }
 
 impl Model for Sessions {
@@ -59,14 +61,42 @@ fn push_statement_at(
     push_statement(&mut sessions[at], statement)
 }
 
+// Where there is no memory for the room, the list grows as it goes.
+fn make_room_at(sessions: &mut [SessionScript], at: usize, statements: usize)
+    requires { at < length sessions.old }
+    ensures { sessions.new ≡ sessions.old }
+{
+    let _ = sessions[at].statements.reserve(statements);
+}
+
+fn share_room(sessions: &mut [SessionScript], statements: usize)
+    ensures { sessions.new ≡ sessions.old }
+{
+    let count = sessions.len();
+    for at in 0..count {
+        make_room_at(sessions, at, statements / count);
+    }
+}
+
 impl Sessions {
-    /// No session.
-    pub fn new(alloc: Global) -> Sessions
+    /// No session, before a text of that many lines is read.
+    pub fn new(alloc: Global, lines: usize) -> Sessions
         ensures { result ≡ [] }
     {
         Sessions {
             list: Vec::new(alloc),
             asked: 0,
+            lines,
+        }
+    }
+
+    // Before the first statement is read, each session gets room for an equal share of what may come: no list grows then
+    // where they ask equally many.
+    fn make_room(&mut self)
+        ensures { self.new ≡ self.old }
+    {
+        if self.asked == 0 {
+            share_room(&mut self.list, self.lines.min(STATEMENT_LIMIT));
         }
     }
 
@@ -110,14 +140,18 @@ impl Sessions {
         match line {
             Line::Blank => Ok(()),
             Line::Declared { name, at } => self.declare(name, at),
-            Line::Asked { session, statement } => self.ask(&session, statement),
+            Line::Asked { session, statement } => {
+                self.make_room();
+                self.ask(&session, statement)
+            }
         }
     }
 
     /// Takes one more line in, which is given without its line feed.
     pub fn add_line(&mut self, alloc: Global, line: &[u8]) -> Result<(), LineFault>
         ensures ok { OnOk result (option_and_then (with_line self.old) (line_of line.now) ≡ Some self.new) }
-        ensures bad { IsErrOf result LineFault.Bad → option_and_then (with_line self.old) (line_of line.now) ≡ None }
+        ensures bad { IsErrOf result LineFault.Bad
+            → option_and_then (with_line self.old) (line_of line.now) ≡ None }
     {
         let line = read_line(alloc, line)?;
         self.add(line)

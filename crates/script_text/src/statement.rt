@@ -1,7 +1,7 @@
 // The statement that a line asks.
 ghost use Rattle.std.specs.Prelude.{◌≡◌, IfOk, IsErrOf, Some, None, codes, option_and_then};
 ghost use Rattle.serde_json.specs.View.{view};
-ghost use Rattle.queue_rows.specs.Built.{IsBuilt};
+ghost use Rattle.built_statements.specs.Built.{IsBuilt};
 ghost use Rattle.script_text.specs.Form.{verb_of};
 ghost use Rattle.script_text.specs.Member.{text_at};
 ghost use Rattle.script_text.specs.Statement.{create_table, create_queue, start_queue, enqueue, dequeue, statement_of, statement};
@@ -12,6 +12,7 @@ use crate::member::{
     fields_at, max_retries_at, mode_at, name_at, navigation_at, payload_at, table_at, text_at,
     visibility_at,
 };
+use payload_records::List;
 use place_keys::SortList;
 use queue_rows::{Admin, Dequeue, Enqueue, QueueKind, Statement};
 use serde_json::Value;
@@ -93,6 +94,7 @@ fn enqueue(alloc: Global, value: &Value) -> Result<Statement, LineFault>
         exception_queue: None,
         before: None,
         top: false,
+        props: List::new(alloc),
     }))
 }
 

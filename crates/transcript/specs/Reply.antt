@@ -1,9 +1,7 @@
 -- The text of a reply: a word, and with some words more behind it.
 use Rattle.std.specs.Prelude.{ℕ, ℤ, ◌++◌, List, [], codes, decimal, Option, Some, None, unwrap_or}
 use Rattle.std.specs.Fmt.{signed_decimal}
-use Rattle.serde_json.specs.Data.{object}
-use Rattle.serde_json.specs.Written.{compact_text}
-use Rattle.payload_records.specs.Record.{members_json}
+use Rattle.payload_records.specs.declared.props.Prop.{Prop}
 use Rattle.payload_records.specs.declared.record.PayloadFault.{PayloadFault}
 use Rattle.payload_records.specs.declared.record.PayloadFault.TheVariants as payloads
 use Rattle.queue_rows.specs.declared.history.SessionScript.{SessionScript}
@@ -15,12 +13,13 @@ use Rattle.queue_rows.specs.declared.reply.ConditionFault.TheVariants as conditi
 use Rattle.queue_rows.specs.declared.reply.LimitName.{LimitName}
 use Rattle.queue_rows.specs.declared.reply.LimitName.TheVariants as limits
 use Rattle.queue_rows.specs.declared.statement.MsgId.{MsgId}
+use Rattle.transcript.specs.Record.{record_text, props_text}
 use Rattle.transcript.specs.Text.{id_text, session_text, json_text, json_or_null}
 
 abbrev pub reply_word : Reply → List ℕ
 reply_word replies.Ok = codes "ok"
 reply_word (replies.Enqueued id) = codes "ok"
-reply_word (replies.Message id priority retries corr payload) = codes "message"
+reply_word (replies.Message id priority retries corr payload props) = codes "message"
 reply_word (replies.Agent number queue consumer) = codes "agent"
 reply_word (replies.Held session) = codes "held"
 reply_word (replies.Payload fault) = codes "payload"
@@ -49,19 +48,27 @@ reply_word replies.NotGrouped = codes "not-grouped"
 reply_word replies.Outstanding = codes "outstanding"
 reply_word replies.NoSchedule = codes "no-schedule"
 
--- a record as a JSON object: every field of its type, a null one too
-abbrev pub record_text : Shown → List ℕ
-record_text shown = compact_text (object (members_json shown.kind shown.cells.cells))
-
 -- the record behind a space, where there is one
 abbrev pub payload_text : Option Shown → List ℕ
 payload_text None = []
 payload_text (Some shown) = codes " " ++ record_text shown
 
-abbrev pub message_text : MsgId → ℤ → ℕ → Option (List ℕ) → Option Shown → List ℕ
-message_text id priority retries corr payload =
+-- what a message reply says before its properties
+abbrev pub message_head : MsgId → ℤ → ℕ → Option (List ℕ) → Option Shown → List ℕ
+message_head id priority retries corr payload =
     codes " " ++ id_text id.db id.number ++ codes " priority " ++ signed_decimal priority ++ codes " retries " ++ decimal retries
     ++ codes " corr " ++ json_or_null corr ++ payload_text payload
+
+abbrev pub message_text : MsgId → ℤ → ℕ → Option (List ℕ) → Option Shown → List Prop → List ℕ
+message_text id priority retries corr payload props = message_head id priority retries corr payload ++ props_text props
+
+-- the agent's place in the list, its queue, and its consumer or a hyphen
+abbrev pub agent_text : ℕ → List ℕ → Option (List ℕ) → List ℕ
+agent_text number queue consumer =
+    codes " " ++ decimal number ++ codes " " ++ queue ++ codes " " ++ unwrap_or consumer (codes "-")
+
+abbrev pub enqueued_text : MsgId → List ℕ
+enqueued_text id = codes " " ++ id_text id.db id.number
 
 -- no history has a payload refused for want of memory
 abbrev pub payload_fault_word : PayloadFault → List ℕ
@@ -94,9 +101,9 @@ limit_text limits.Ids = codes " ids"
 
 -- what stands behind the word
 abbrev pub reply_details : List SessionScript → Reply → List ℕ
-reply_details scripts (replies.Enqueued id) = codes " " ++ id_text id.db id.number
-reply_details scripts (replies.Message id priority retries corr payload) = message_text id priority retries corr payload
-reply_details scripts (replies.Agent number queue consumer) = codes " " ++ decimal number ++ codes " " ++ queue ++ codes " " ++ unwrap_or consumer (codes "-")
+reply_details scripts (replies.Enqueued id) = enqueued_text id
+reply_details scripts (replies.Message id priority retries corr payload props) = message_text id priority retries corr payload props
+reply_details scripts (replies.Agent number queue consumer) = agent_text number queue consumer
 reply_details scripts (replies.Held session) = codes " " ++ session_text scripts session
 reply_details scripts (replies.Payload fault) = payload_fault_text fault
 reply_details scripts (replies.BadCondition fault) = condition_fault_text fault

@@ -1,5 +1,5 @@
 -- The parts of a line: ids, slots, sessions and texts as JSON.
-use Rattle.std.specs.Prelude.{ℕ, ◌++◌, List, [], codes, decimal, Option, slice_get}
+use Rattle.std.specs.Prelude.{ℕ, ◌++◌, ◌&&◌, ◌==◌, not, nat_le, List, [], codes, decimal, Bool, Option, slice_get}
 use Rattle.std.specs.Option.{option_map_or}
 use Rattle.serde_json.specs.Data.{null, string}
 use Rattle.serde_json.specs.Written.{compact_text}
@@ -23,6 +23,14 @@ id_text db number = letter_of db ++ decimal number
 -- as h7.2: a slot of that message
 abbrev pub slot_text : DbId → ℕ → ℕ → List ℕ
 slot_text db id slot = id_text db id ++ codes "." ++ decimal slot
+
+-- a byte that stands for itself in a JSON text: no control character, no quote and no backslash
+abbrev pub is_plain : ℕ → Bool
+is_plain byte = nat_le 32 byte && not (byte == 34) && not (byte == 92)
+
+-- a text as it stands, in quotes
+abbrev pub quoted_text : List ℕ → List ℕ
+quoted_text text = codes "\"" ++ text ++ codes "\""
 
 -- a text as a JSON text, in its quotes
 abbrev pub json_text : List ℕ → List ℕ

@@ -29,7 +29,8 @@ fn put_told(
     told: bool,
     reply: &Reply,
 ) -> Result<(), AllocError>
-    ensures { OnOk result (string_bytes out.new ≡ string_bytes out.old ++ told_text scripts.now told reply.now) }
+    ensures { OnOk result (string_bytes out.new
+        ≡ string_bytes out.old ++ told_text scripts.now told reply.now) }
 {
     if told {
         put_reply(out, scripts, reply)

@@ -4,9 +4,8 @@
 
 mod history;
 mod line;
+mod record;
 mod reply;
-#[cfg(test)]
-mod tests;
 mod text;
 mod told;
 mod word;

@@ -1,10 +1,10 @@
 // The text of a reply: a word, and with some words more behind it.
-ghost use Rattle.std.specs.Prelude.{◌≡◌, ◌++◌, OnOk, string_bytes, unwrap_or, codes, decimal};
-ghost use Rattle.transcript.specs.Text.{id_text};
-ghost use Rattle.transcript.specs.Reply.{reply_word, record_text, payload_text, message_text, payload_fault_word, payload_fault_place, payload_fault_text, condition_fault_text, limit_text, reply_details, reply_text};
+ghost use Rattle.std.specs.Prelude.{◌≡◌, ◌++◌, OnOk, string_bytes, unwrap_or, codes};
+ghost use Rattle.transcript.specs.Reply.{reply_word, payload_text, message_head, agent_text, enqueued_text, payload_fault_word, payload_fault_place, payload_fault_text, condition_fault_text, limit_text, reply_details, reply_text};
 
+use crate::record::{put_props, put_record};
 use crate::text::{Id, put_json, put_json_or_null, session_name};
-use payload_records::{List, Name, PayloadFault, Text};
+use payload_records::{List, Name, PayloadFault, Prop, Text};
 use queue_rows::{ConditionFault, LimitName, MsgId, Reply, SessionScript, Shown};
 use std::alloc::AllocError;
 
@@ -44,16 +44,6 @@ fn reply_word(reply: &Reply) -> &'static str
     }
 }
 
-#[tactic(auto, using(crate::proofs::Floats::no_float))]
-fn put_record(out: &mut String, shown: &Shown) -> Result<(), AllocError>
-    ensures { OnOk result (string_bytes out.new ≡ string_bytes out.old ++ record_text shown.now) }
-{
-    let alloc = *out.allocator();
-    let value = shown.cells.to_json(alloc, &shown.kind)?;
-    let json = value.to_string(alloc)?;
-    out.push_str(json.as_str())
-}
-
 fn put_payload(out: &mut String, payload: &Option<Shown>) -> Result<(), AllocError>
     ensures { OnOk result (string_bytes out.new ≡ string_bytes out.old ++ payload_text payload.now) }
 {
@@ -64,7 +54,7 @@ fn put_payload(out: &mut String, payload: &Option<Shown>) -> Result<(), AllocErr
     put_record(out, shown)
 }
 
-fn put_message(
+fn put_message_head(
     out: &mut String,
     id: MsgId,
     priority: i64,
@@ -73,7 +63,7 @@ fn put_message(
     payload: &Option<Shown>,
 ) -> Result<(), AllocError>
     ensures { OnOk result (string_bytes out.new
-        ≡ string_bytes out.old ++ message_text id priority retries corr.now payload.now) }
+        ≡ string_bytes out.old ++ message_head id priority retries corr.now payload.now) }
 {
     let id = Id(id);
     write!(out, " {id} priority {priority} retries {retries} corr ")?;
@@ -97,7 +87,7 @@ fn put_agent(
     consumer: &Option<Name>,
 ) -> Result<(), AllocError>
     ensures { OnOk result (string_bytes out.new
-        ≡ string_bytes out.old ++ (codes " " ++ decimal number ++ codes " " ++ queue.now ++ codes " " ++ unwrap_or consumer.now (codes "-"))) }
+        ≡ string_bytes out.old ++ agent_text number queue.now consumer.now) }
 {
     let queue = queue.as_str();
     let consumer = consumer_text(consumer);
@@ -164,7 +154,7 @@ fn limit_text(name: LimitName) -> &'static str
 }
 
 fn put_id(out: &mut String, id: MsgId) -> Result<(), AllocError>
-    ensures { OnOk result (string_bytes out.new ≡ string_bytes out.old ++ (codes " " ++ id_text id.db id.number)) }
+    ensures { OnOk result (string_bytes out.new ≡ string_bytes out.old ++ enqueued_text id) }
 {
     let id = Id(id);
     write!(out, " {id}")
@@ -175,7 +165,8 @@ fn put_details(
     scripts: &List<SessionScript>,
     reply: &Reply,
 ) -> Result<(), AllocError>
-    ensures { OnOk result (string_bytes out.new ≡ string_bytes out.old ++ reply_details scripts.now reply.now) }
+    ensures { OnOk result (string_bytes out.new
+        ≡ string_bytes out.old ++ reply_details scripts.now reply.now) }
 {
     match reply {
         Reply::Enqueued(id) => put_id(out, *id),
@@ -185,7 +176,11 @@ fn put_details(
             retries,
             corr,
             payload,
-        } => put_message(out, *id, *priority, *retries, corr, payload),
+            props,
+        } => {
+            put_message_head(out, *id, *priority, *retries, corr, payload)?;
+            put_props(out, props)
+        }
         Reply::Agent {
             number,
             queue,

@@ -1,7 +1,8 @@
 // The parts of a line: ids, slots, sessions and texts as JSON.
 ghost use Rattle.std.specs.Prelude.{◌≡◌, ◌++◌, OnOk, IfOk, option_map, string_bytes, Some};
+ghost use Rattle.std.specs.List.{list_all};
 ghost use Rattle.serde_json.specs.View.{view};
-ghost use Rattle.transcript.specs.Text.{letter_of, other_of, id_text, slot_text, json_text, json_or_null, session_text};
+ghost use Rattle.transcript.specs.Text.{letter_of, other_of, id_text, slot_text, is_plain, quoted_text, json_text, json_or_null, session_text};
 
 use aq_base::DbId;
 use payload_records::{List, Text};
@@ -72,14 +73,40 @@ impl From<SlotRef> for Slot {
     }
 }
 
-/// Puts a text in as a JSON text, in its quotes.
-pub(crate) fn put_json(out: &mut String, text: &str) -> Result<(), AllocError>
+fn is_plain(text: &str) -> bool
+    ensures { result ≡ list_all is_plain text.now }
+{
+    text.as_bytes()
+        .iter()
+        .all(|byte| *byte >= b' ' && *byte != b'"' && *byte != b'\\')
+}
+
+fn put_quoted(out: &mut String, text: &str) -> Result<(), AllocError>
+    ensures { OnOk result (string_bytes out.new ≡ string_bytes out.old ++ quoted_text text.now) }
+{
+    write!(out, "\"{text}\"")
+}
+
+fn put_escaped(out: &mut String, text: &str) -> Result<(), AllocError>
     ensures { OnOk result (string_bytes out.new ≡ string_bytes out.old ++ json_text text.now) }
 {
     let alloc = *out.allocator();
     let value = Value::String(String::from_str(alloc, text)?);
     let json = value.to_string(alloc)?;
     out.push_str(json.as_str())
+}
+
+/// Puts a text in as a JSON text, in its quotes. It takes no memory but that of the text that it
+/// is put into, unless something has to be escaped.
+#[tactic(auto, using(crate::proofs::Plain::plain_text))]
+pub(crate) fn put_json(out: &mut String, text: &str) -> Result<(), AllocError>
+    ensures { OnOk result (string_bytes out.new ≡ string_bytes out.old ++ json_text text.now) }
+{
+    if is_plain(text) {
+        put_quoted(out, text)
+    } else {
+        put_escaped(out, text)
+    }
 }
 
 /// Puts a text in as a JSON text, or null.

@@ -22,12 +22,12 @@ pub(crate) struct ToldCalls {
 }
 
 impl ToldCalls {
-    fn new(alloc: Global) -> ToldCalls
-        ensures { (session number : ℕ) → has_call result session number ≡ false }
+    // No call, with room for as many.
+    fn with_capacity(alloc: Global, calls: usize) -> Result<ToldCalls, AllocError>
+        ensures { IfOk result (λ told. (session number : ℕ) → has_call told session number ≡ false) }
     {
-        ToldCalls {
-            calls: HashSet::new(alloc),
-        }
+        let calls = HashSet::with_capacity(alloc, calls)?;
+        Ok(ToldCalls { calls })
     }
 
     fn note(&mut self, session: u32, number: u32) -> Result<(), AllocError>
@@ -53,7 +53,11 @@ impl ToldCalls {
         ensures { IfOk result (λ told. (session number : ℕ)
             → has_call told session number ≡ is_told entries.now session number) }
     {
-        let mut told = ToldCalls::new(alloc);
+        let calls = entries
+            .iter()
+            .filter(|entry| matches!(entry.step, Step::Told { .. }))
+            .count();
+        let mut told = ToldCalls::with_capacity(alloc, calls)?;
         for entry in entries {
             told.note_entry(entry)?;
         }

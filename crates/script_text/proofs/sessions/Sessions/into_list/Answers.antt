@@ -1,6 +1,6 @@
 use Rattle.std.proofs.Common.{subst}
 use Rattle.std.specs.List.{All}
-use Rattle.queue_rows.specs.Built.{IsShortScript}
+use Rattle.built_statements.specs.Built.{IsShortScript}
 use Rattle.script_text.proofs.Growth.{each_short}
 use Rattle.script_text.proofs.sessions.Sessions.into_list.Goals as goal
 

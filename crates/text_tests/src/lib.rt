@@ -1,0 +1,11 @@
+//! Tests of what is read and printed: conditions, scripts and transcripts.
+#![tactic(auto)]
+
+#[cfg(test)]
+mod condition_texts;
+#[cfg(test)]
+mod conditions;
+#[cfg(test)]
+mod scripts;
+#[cfg(test)]
+mod transcripts;
