@@ -1,5 +1,5 @@
 pub mod Counting
-pub mod Crew
+pub mod Workers
 pub mod Entries
 pub mod Passes
 pub mod Rule

@@ -3,13 +3,13 @@
 
 mod grows;
 mod lends;
-mod line;
 mod lock;
+pub mod number_log;
 mod pass;
 mod rule;
-pub mod tally;
 #[cfg(test)]
 mod tests;
+mod ticket_queue;
 mod turn;
 
 pub use grows::Grows;

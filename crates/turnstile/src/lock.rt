@@ -4,9 +4,9 @@ ghost use mathlib.Core.List.{IsPrefix};
 ghost use Rattle.turnstile.specs.Steps.{HasTurn};
 
 use crate::grows::Grows;
-use crate::line::Line;
 use crate::pass::Pass;
 use crate::rule::{Cut, Law, Learn, Merge, Number, Start, Take, TakeOut, View};
+use crate::ticket_queue::TicketQueue;
 use crate::turn::Turn;
 use atomic_table::{Refused, Table};
 use std::alloc::{AllocFailed, Global};
@@ -17,7 +17,7 @@ use std::sync::Wait;
 /// One value that one pass at a time may replace. It is not dropped: `close` gives the value back.
 pub struct Turnstile<W: Grows> {
     pub(crate) table: Table<Option<W>, View<W::Opening, W::Entry>, Start<W>, Law<W>, Global>,
-    pub(crate) line: Line,
+    pub(crate) queue: TicketQueue,
     ghost counts: { (table.shared.table_id.words ≡ 1) × (table.shared.table_id.slots ≡ 1) },
 }
 
@@ -40,7 +40,8 @@ impl<W: Grows> Turnstile<W> {
     /// The error is want of memory alone and hands the value back.
     pub fn new(alloc: Global, value: W, actor: u32) -> Result<(Turnstile<W>, Pass<W>), W>
         requires { W.entries value ≡ [] }
-        ensures ok { IfOk result (λ r. IsPassOf r.0 r.1 × (known r.1 ≡ first_known actor (W.opening value))) }
+        ensures ok { IfOk result
+            (λ r. IsPassOf r.0 r.1 × (known r.1 ≡ first_known actor (W.opening value))) }
         ensures err { IfErr result (λ x. x ≡ value) }
     {
         let about = Start {
@@ -55,8 +56,8 @@ impl<W: Grows> Turnstile<W> {
         }
         match Table::new(alloc, &[0], slots, &about) {
             Ok((table, seat)) => {
-                let line = Line::new();
-                Ok((Turnstile { table, line }, Pass { seat }))
+                let queue = TicketQueue::new();
+                Ok((Turnstile { table, queue }, Pass { seat }))
             }
             Err(Refused { slots }) => Err(only(slots)),
         }
@@ -65,7 +66,8 @@ impl<W: Grows> Turnstile<W> {
     fn split_as<N: Number>(&self, pass: &mut Pass<W>, actor: u32) -> Pass<W>
         requires pass { IsPassOf self.now pass.old }
         requires first { (known pass.old).first ≡ true }
-        requires number { ((known pass.old).actor ≢ actor) × (¬ Contains (known pass.old).made actor) × (N.number ≡ actor) }
+        requires number { ((known pass.old).actor ≢ actor) × (¬ Contains (known pass.old).made actor)
+            × (N.number ≡ actor) }
         ensures pass { IsPassOf self.now pass.new × (known pass.new ≡ has_made (known pass.old) actor) }
         ensures new { IsPassOf self.now result × (known result ≡ new_known (known pass.old) actor) }
     {
@@ -90,15 +92,15 @@ impl<W: Grows> Turnstile<W> {
         ensures same { pass.new.seat.table_id ≡ pass.old.seat.table_id }
         ensures turn { HasTurn W.opening W.entries W.actor pass.old.seat.me pass.new.seat.me }
     {
-        let mut ticket = self.line.draw();
+        let mut ticket = self.queue.draw();
         for _ in rt.forever() {
-            self.line.wait(rt, &mut ticket);
+            self.queue.wait(rt, &mut ticket);
             let shared = &self.table.shared;
             let found = shared.compare_exchange::<Take<W>>(&mut pass.seat, 0, 0, 1);
             if found == 0 {
                 return;
             }
-            self.line.nap(rt, &mut ticket);
+            self.queue.sleep(rt, &mut ticket);
         }
         unreachable!()
     }
@@ -108,8 +110,10 @@ impl<W: Grows> Turnstile<W> {
     pub fn enter<'a, R: Wait>(&'a self, rt: &R, pass: &'a mut Pass<W>) -> Turn<'a, W>
         requires { IsPassOf self.now pass.old }
         // The turn is a turn of this very pass and turnstile.
-        ensures same { (result.pass.ghost_name ≡ pass.entry.ghost_name) × (result.turnstile.now ≡ self.now) }
-        ensures turn { IsTurnOf self.now result.pass.now × (known result.pass.now ≡ in_turn (known pass.old) (W.entries result.value)) }
+        ensures same { (result.pass.ghost_name ≡ pass.entry.ghost_name)
+            × (result.turnstile.now ≡ self.now) }
+        ensures turn { IsTurnOf self.now result.pass.now
+            × (known result.pass.now ≡ in_turn (known pass.old) (W.entries result.value)) }
         ensures value { Continues W.opening W.entries W.actor (known pass.old) result.value }
     {
         self.take(rt, pass);
@@ -128,7 +132,8 @@ impl<W: Grows> Turnstile<W> {
     pub fn join(&self, pass: &mut Pass<W>, other: Pass<W>)
         requires pass { IsPassOf self.now pass.old × ((known pass.old).first ≡ true) }
         requires other { IsPassOf self.now other × ((known other).first ≡ false) }
-        ensures pass { IsPassOf self.now pass.new × (known pass.new ≡ has_joined (known pass.old) (known other)) }
+        ensures pass { IsPassOf self.now pass.new
+            × (known pass.new ≡ has_joined (known pass.old) (known other)) }
         ensures this { IsPrefix (known pass.old).seen (known pass.new).seen }
         ensures that { IsPrefix (known other).seen (known pass.new).seen }
     {
@@ -145,7 +150,7 @@ impl<W: Grows> Turnstile<W> {
         ensures { Closes W.opening W.entries W.actor (known pass) result }
     {
         let Pass { seat } = pass;
-        let Turnstile { table, line: _ } = self;
+        let Turnstile { table, queue: _ } = self;
         let mut closed = table.close_with(seat);
         let slot = closed.take(0);
         closed.free();

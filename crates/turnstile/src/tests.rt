@@ -1,11 +1,11 @@
-use crate::line::Line;
 use crate::lock::Turnstile;
-use crate::tally::{Tally, add};
+use crate::number_log::{NumberLog, add};
+use crate::ticket_queue::TicketQueue;
 use std::test::Fail;
 
 #[test]
 fn a_pass_sees_what_was_there_before_it(rt: HostRuntime) -> Result<(), Fail> {
-    let made = Turnstile::new(rt.alloc(), Tally::new(rt.alloc(), 7), 9);
+    let made = Turnstile::new(rt.alloc(), NumberLog::new(rt.alloc(), 7), 9);
     let Ok((turnstile, mut first)) = made else {
         panic!(rt; "no memory");
     };
@@ -16,35 +16,35 @@ fn a_pass_sees_what_was_there_before_it(rt: HostRuntime) -> Result<(), Fail> {
     turn.leave();
     let after = add(&rt, &turnstile, &mut other, 1, 30);
     turnstile.join(&mut first, other);
-    let tally = turnstile.close(first);
+    let log = turnstile.close(first);
     before?;
     after?;
     assert_eq!(rt; seen, 1);
-    assert_eq!(rt; tally.effort, 7);
-    assert!(rt; tally.pairs.as_slice() == [(9, 70), (1, 30)].as_slice());
+    assert_eq!(rt; log.effort, 7);
+    assert!(rt; log.pairs.as_slice() == [(9, 70), (1, 30)].as_slice());
     Ok(())
 }
 
 #[test]
 fn tickets_are_served_in_order(rt: HostRuntime) {
-    let line = Line::new();
-    let mut tickets = [line.draw(), line.draw(), line.draw()];
+    let queue = TicketQueue::new();
+    let mut tickets = [queue.draw(), queue.draw(), queue.draw()];
     for ticket in &mut tickets {
-        line.wait(&rt, ticket);
-        line.call_next();
+        queue.wait(&rt, ticket);
+        queue.call_next();
     }
 }
 
 #[test]
 fn a_lost_ticket_only_costs_time(rt: HostRuntime) -> Result<(), Fail> {
-    let made = Turnstile::new(rt.alloc(), Tally::new(rt.alloc(), 0), 9);
+    let made = Turnstile::new(rt.alloc(), NumberLog::new(rt.alloc(), 0), 9);
     let Ok((turnstile, mut first)) = made else {
         panic!(rt; "no memory");
     };
-    turnstile.line.draw();
+    turnstile.queue.draw();
     let added = add(&rt, &turnstile, &mut first, 9, 70);
-    let tally = turnstile.close(first);
+    let log = turnstile.close(first);
     added?;
-    assert_eq!(rt; tally.pairs.len(), 1);
+    assert_eq!(rt; log.pairs.len(), 1);
     Ok(())
 }

@@ -21,7 +21,8 @@ impl<'a, W: Grows> Turn<'a, W> {
         requires turn { IsTurnOf self.turnstile.now self.pass.now }
         requires grew { Grew W.opening W.entries W.actor (known self.pass.now) self.value }
         ensures pass { IsPassOf self.entry.turnstile.now self.exit.0.now }
-        ensures knows { known self.exit.0.now ≡ after_turn (known self.entry.pass.now) (W.entries self.entry.value) }
+        ensures knows { known self.exit.0.now
+            ≡ after_turn (known self.entry.pass.now) (W.entries self.entry.value) }
     {
         let Turn {
             pass,
@@ -34,6 +35,6 @@ impl<'a, W: Grows> Turn<'a, W> {
         shared.store::<Announce<W>>(&mut pass.seat, 0, 1);
         shared.load::<PutIn<W>>(&mut pass.seat, 0);
         shared.store::<Release<W>>(&mut pass.seat, 0, 0);
-        turnstile.line.call_next();
+        turnstile.queue.call_next();
     }
 }

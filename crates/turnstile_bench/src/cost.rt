@@ -4,7 +4,7 @@ use std::io;
 use std::sync::Wait;
 use std::thread::Threads;
 use std::time::{Clock, CpuClock, Duration, Instant};
-use turnstile::tally::gathered;
+use turnstile::number_log::gathered;
 
 /// Nanoseconds of time, and of all processors' time, for so many turns.
 #[derive(Clone, Copy)]
@@ -77,8 +77,8 @@ fn of_turnstile<R: Threads + Wait + Sync + Clock + CpuClock + AllocGlobal>(
     effort: u32,
 ) -> io::Result<Cost> {
     let begun = Begun::now(rt)?;
-    let tally = gathered(rt, rt.alloc(), threads, turns, effort)?;
-    begun.cost(rt, tally.pairs.len())
+    let log = gathered(rt, rt.alloc(), threads, turns, effort)?;
+    begun.cost(rt, log.pairs.len())
 }
 
 fn of_mutex<R: Threads + Wait + Sync + Clock + CpuClock + AllocGlobal>(
@@ -88,8 +88,8 @@ fn of_mutex<R: Threads + Wait + Sync + Clock + CpuClock + AllocGlobal>(
     effort: u32,
 ) -> io::Result<Cost> {
     let begun = Begun::now(rt)?;
-    let tally = crowded(rt, rt.alloc(), threads, turns, effort)?;
-    begun.cost(rt, tally.pairs.len())
+    let log = crowded(rt, rt.alloc(), threads, turns, effort)?;
+    begun.cost(rt, log.pairs.len())
 }
 
 /// The hundredths of a ratio, which is 0 where there is nothing to divide by.

@@ -1,15 +1,15 @@
-//! The twin of a crew that gathers through a turnstile: the same threads and the same list, under a mutex of std.
+//! The twin of a workers that gathers through a turnstile: the same threads and the same list, under a mutex of std.
 use std::alloc::{AllocError, Global};
 use std::sync::{Mutex, Wait};
 use std::thread;
 use std::thread::Threads;
-use turnstile::tally::Tally;
+use turnstile::number_log::NumberLog;
 
-fn add<R: Wait>(rt: &R, lock: &Mutex<Tally>, actor: u32, number: u32) -> bool {
+fn add<R: Wait>(rt: &R, lock: &Mutex<NumberLog>, actor: u32, number: u32) -> bool {
     lock.lock(rt).add(actor, number).is_ok()
 }
 
-fn work<R: Wait>(rt: &R, lock: &Mutex<Tally>, worker: &mut Worker) {
+fn work<R: Wait>(rt: &R, lock: &Mutex<NumberLog>, worker: &mut Worker) {
     for number in 0..worker.turns {
         if !add(rt, lock, worker.actor, number) {
             worker.done = false;
@@ -31,7 +31,7 @@ pub fn crowded<R: Threads + Wait + Sync>(
     actors: u32,
     turns: u32,
     effort: u32,
-) -> Result<Tally, AllocError> {
+) -> Result<NumberLog, AllocError> {
     let mut workers = Vec::new(alloc);
     for actor in 0..actors {
         workers.push(Worker {
@@ -40,7 +40,7 @@ pub fn crowded<R: Threads + Wait + Sync>(
             done: true,
         })?;
     }
-    let lock = Mutex::new(Tally::new(alloc, effort));
+    let lock = Mutex::new(NumberLog::new(alloc, effort));
     let threads = workers.len();
     if threads > 0 {
         thread::for_each_mut(
@@ -51,6 +51,6 @@ pub fn crowded<R: Threads + Wait + Sync>(
         );
     }
     let all = workers.iter().all(|worker| worker.done);
-    let tally = lock.into_inner();
-    if all { Ok(tally) } else { Err(AllocError) }
+    let log = lock.into_inner();
+    if all { Ok(log) } else { Err(AllocError) }
 }

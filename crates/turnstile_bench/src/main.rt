@@ -9,7 +9,7 @@ use crowd::crowded;
 use std::sync::Wait;
 use std::thread::Threads;
 use std::{env, io};
-use turnstile::tally::gathered;
+use turnstile::number_log::gathered;
 
 /// How often each lock is measured, in turn with the other.
 const ROUNDS: u32 = 5;

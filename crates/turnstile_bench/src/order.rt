@@ -4,7 +4,7 @@ use std::alloc::{AllocError, Global};
 use std::io;
 use std::sync::Wait;
 use std::thread::Threads;
-use turnstile::tally::{Tally, gathered};
+use turnstile::number_log::{NumberLog, gathered};
 
 /// What a list of turns shows, from where each thread has entered to where the first has entered for the last time.
 #[derive(Clone, Copy)]
@@ -16,7 +16,7 @@ struct Order {
     longest: u64,
 }
 
-fn of(alloc: Global, tally: &Tally, threads: u32, turns: u32) -> Result<Order, AllocError> {
+fn of(alloc: Global, log: &NumberLog, threads: u32, turns: u32) -> Result<Order, AllocError> {
     let mut last: Vec<Option<u64>> = Vec::new(alloc);
     for _ in 0..threads {
         last.push(None)?;
@@ -28,7 +28,7 @@ fn of(alloc: Global, tally: &Tally, threads: u32, turns: u32) -> Result<Order, A
     };
     let mut entered = 0u32;
     let mut at = 0u64;
-    for (actor, number) in &tally.pairs {
+    for (actor, number) in &log.pairs {
         at = at.wrapping_add(1);
         let Some(place) = last.get_mut(*actor as usize) else {
             continue;

@@ -1,0 +1,14 @@
+pub mod Areas
+pub mod Beginning
+pub mod Frames
+pub mod Items
+pub mod Reading
+pub mod Room
+pub mod Same
+pub mod Septets
+pub mod Moments
+pub mod Grow
+pub mod Heads
+pub mod Fronts
+pub mod Blocks
+pub mod Numbers

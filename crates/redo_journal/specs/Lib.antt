@@ -1,0 +1,10 @@
+pub mod Crash
+pub mod Journal
+pub mod Num
+pub mod Put
+pub mod Journaled
+pub mod Reading
+pub mod Broken
+pub mod Begun
+pub mod Mount
+pub mod Runs
