@@ -1,0 +1,36 @@
+-- An edit on the right side of a root, and at the root.
+use Rattle.std.proofs.Common.{◌≡◌, ℕ, ◌-◌, ◌<◌, List, [], ◌∷◌, ◌++◌, length, insert, remove, slice_get, Option, Some, None, IsSome, refl, sym, ap, ◌∙◌, arith}
+use Rattle.std.specs.Option.{option_to_list}
+use Rattle.std.proofs.lemmas.List.{length-append, get_or_at}
+use Rattle.std.proofs.lemmas.List.Edits.{insert-append_right, remove-append_right}
+use Rattle.std.proofs.lemmas.Option.{slice_get-get_or}
+
+pub insert_right : {T : Type 0} (xs l r : List T) (row : Option T) (at : ℕ) (x : T) → IsSome row → xs ≡ l ++ (option_to_list row ++ r) → length l < at
+    → l ++ (option_to_list row ++ insert r (at - length l - 1) x) ≡ insert xs at x
+insert_right xs l r None at x some is after = cc some
+insert_right xs l r (Some k) at x some is after =
+    let inner = insert-append_right (k ∷ []) r 1 (at - length l) x refl (omega arith) in
+    let outer = insert-append_right l (k ∷ r) (length l) at x refl (omega arith) in
+    rw is (ap (λ ys. l ++ ys) (sym inner) ∙ sym outer)
+
+pub remove_right : {T : Type 0} (xs l r : List T) (row : Option T) (at : ℕ) → IsSome row → xs ≡ l ++ (option_to_list row ++ r) → length l < at
+    → l ++ (option_to_list row ++ remove r (at - length l - 1)) ≡ remove xs at
+remove_right xs l r None at some is after = cc some
+remove_right xs l r (Some k) at some is after =
+    let inner = remove-append_right (k ∷ []) r 1 (at - length l) refl (omega arith) in
+    let outer = remove-append_right l (k ∷ r) (length l) at refl (omega arith) in
+    rw is (ap (λ ys. l ++ ys) (sym inner) ∙ sym outer)
+
+pub remove_root : {T : Type 0} (xs l r : List T) (row : Option T) (k : T) (at : ℕ) → row ≡ Some k → xs ≡ l ++ (option_to_list row ++ r) → at ≡ length l
+    → l ++ r ≡ remove xs at
+remove_root xs l r row k at some is here =
+    let outer = remove-append_right l (k ∷ r) (length l) at refl (omega arith) in
+    let none : at - length l ≡ 0 = omega arith in
+    rw (is, some) (sym (outer ∙ ap (λ n. l ++ remove (k ∷ r) n) none))
+
+pub get_root : {T : Type 0} (xs l r : List T) (row : Option T) (k : T) (at : ℕ) → row ≡ Some k → xs ≡ l ++ (option_to_list row ++ r) → at ≡ length l
+    → slice_get xs at ≡ Some k
+get_root xs l r row k at some is here =
+    let long = length-append l (k ∷ r) in
+    let within : at < length (l ++ (k ∷ r)) = omega arith in
+    rw (is, some) (slice_get-get_or (l ++ (k ∷ r)) at k within ∙ ap Some (get_or_at l k r k at (sym here)))

@@ -1,0 +1,360 @@
+// A tree of rows, which contracts see as the list of its rows.
+ghost use Rattle.std.specs.Prelude.{◌≡◌, ◌+◌, ◌-◌, ◌<◌, ◌≤◌, [], ◌∷◌, ◌++◌, length, insert, remove, slice_get, option_copied, Some, IsSome, IfSome, IfNone};
+ghost use Rattle.std.specs.List.{prefix_len};
+ghost use Rattle.std.specs.Option.{option_to_list};
+ghost use Rattle.std.specs.Ordering.{is_lt};
+ghost use Rattle.row_tree.specs.Split.{IsSplit};
+
+use crate::{Bound, InOrder};
+use std::alloc::{AllocError, Global};
+use std::marker::Model;
+use std::mem;
+
+/// Rows in an order, which contracts see as the list of these rows. Each row is reached in about as many steps as their number has
+/// binary digits.
+#[cycle(tree)]
+#[derive(Drop)]
+pub struct Tree<T> {
+    root: Option<Box<Fork<T>>>,
+}
+
+#[cycle(tree)]
+#[derive(Drop)]
+struct Fork<T> {
+    left: Tree<T>,
+    right: Tree<T>,
+    count: usize,
+    row: Option<T>,
+}
+
+impl<T> Model for Tree<T> {
+    ghost use Rattle.std.specs.Prelude.{List as Sequence, length};
+    ghost use Rattle.std.specs.Coded.{coded_list};
+
+    ghost Value = { Sequence T };
+
+    ghost coded = { coded_list T.code };
+
+    ghost use Rattle.row_tree.specs.Rows.{rows, IsWhole};
+
+    ghost view = { λ t. rows t.root };
+
+    ghost invariant = { λ t. IsWhole t.root };
+
+    ghost size = { length };
+
+    ghost use Rattle.row_tree.specs.RowsFall.{sides_are_shorter};
+
+    ghost size_decreases = { λ t whole. sides_are_shorter t.root whole };
+}
+
+/// A place for a row that is to be put in.
+#[derive(Drop)]
+pub struct Spare<T> {
+    fork: Box<Fork<T>>,
+}
+
+#[derive(Drop)]
+struct Opened<T> {
+    left: Tree<T>,
+    fork: Box<Fork<T>>,
+    right: Tree<T>,
+}
+
+impl<T> Tree<T> {
+    /// No rows.
+    pub fn new() -> Tree<T>
+        ensures { result ≡ [] }
+    {
+        Tree { root: None }
+    }
+
+    /// How many rows there are.
+    pub fn len(&self) -> usize
+        ensures { result ≡ length self.now }
+    {
+        match &self.root {
+            None => 0,
+            Some(fork) => fork.count,
+        }
+    }
+}
+
+/// What is left where a row was taken out.
+#[derive(Drop)]
+pub struct Removed<T> {
+    /// The other rows.
+    pub rest: Tree<T>,
+    /// The row.
+    pub row: T,
+    /// Its place.
+    pub spare: Spare<T>,
+}
+
+#[derive(Drop)]
+struct First<T> {
+    fork: Box<Fork<T>>,
+    rest: Tree<T>,
+}
+
+impl<T> Tree<T> {
+    /// The row at an index that counts from 0, or None past the end. It takes no memory.
+    pub fn get(&self, at: usize) -> Option<&T>
+        ensures { option_copied result ≡ slice_get self.now at }
+    {
+        let Some(fork) = &self.root else {
+            return None;
+        };
+        let fork: &Fork<T> = fork;
+        let before = fork.left.len();
+        if at < before {
+            fork.left.get(at)
+        } else if at == before {
+            fork.row.as_ref()
+        } else {
+            fork.right.get(at - before - 1)
+        }
+    }
+}
+
+impl<T: InOrder> Tree<T> {
+    /// How many rows stand before the first one that does not stand before the bound. It takes no memory.
+    pub fn rank<B: Bound<T>>(&self, bound: &B) -> usize
+        requires { IsSplit (λ row. is_lt (B.standing bound.now row)) self.now }
+        ensures { result ≡ prefix_len (λ row. is_lt (B.standing bound.now row)) self.now }
+    {
+        let _most = self.len();
+        let Some(fork) = &self.root else {
+            return 0;
+        };
+        let fork: &Fork<T> = fork;
+        let Some(row) = &fork.row else { unreachable!() };
+        if bound.standing(row).is_lt() {
+            fork.left.len() + 1 + fork.right.rank(bound)
+        } else {
+            fork.left.rank(bound)
+        }
+    }
+}
+
+impl<T: Drop> Tree<T> {
+    fn open(self) -> Option<Opened<T>>
+        ensures some { IfSome result (λ o. self ≡ o.left ++ (option_to_list o.fork.value.row ++ o.right)) }
+        ensures row { IfSome result (λ o. IsSome o.fork.value.row) }
+        ensures fits { IfSome result (λ _. length self ≤ usize.MAX) }
+        ensures none { IfNone result (self ≡ []) }
+    {
+        match self.root {
+            None => None,
+            Some(mut fork) => {
+                let _count = fork.count;
+                let left = mem::replace(&mut fork.left, Tree::new());
+                let right = mem::replace(&mut fork.right, Tree::new());
+                Some(Opened { left, fork, right })
+            }
+        }
+    }
+
+    /// Puts a row before the one at an index, or at the end. It takes no memory.
+    pub fn insert(self, at: usize, row: T, spare: Spare<T>) -> Tree<T>
+        requires within { at ≤ length self }
+        requires fits { length self < usize.MAX }
+        ensures { result ≡ insert self at row }
+    {
+        let Some(Opened { left, fork, right }) = self.open() else {
+            return hang(filled(spare, row), Tree::new(), Tree::new());
+        };
+        let before = left.len();
+        if at <= before {
+            let left = left.insert(at, row, spare);
+            join(fork, left, right)
+        } else {
+            let right = right.insert(at - before - 1, row, spare);
+            join(fork, left, right)
+        }
+    }
+
+    /// Takes the row at an index out. It takes no memory.
+    pub fn remove(self, at: usize) -> Removed<T>
+        requires { at < length self }
+        ensures row { slice_get self at ≡ Some result.row }
+        ensures rest { result.rest ≡ remove self at }
+    {
+        let Some(
+            Opened {
+                left,
+                mut fork,
+                right,
+            },
+        ) = self.open()
+        else {
+            unreachable!()
+        };
+        let before = left.len();
+        if at < before {
+            let Removed { rest, row, spare } = left.remove(at);
+            Removed {
+                rest: join(fork, rest, right),
+                row,
+                spare,
+            }
+        } else if at > before {
+            let Removed { rest, row, spare } = right.remove(at - before - 1);
+            Removed {
+                rest: join(fork, left, rest),
+                row,
+                spare,
+            }
+        } else {
+            let Some(row) = fork.row.take() else {
+                unreachable!()
+            };
+            Removed {
+                rest: glue(left, right),
+                row,
+                spare: Spare { fork },
+            }
+        }
+    }
+
+    fn take_first(self) -> Option<First<T>>
+        ensures some { IfSome result (λ f. self ≡ option_to_list f.fork.value.row ++ f.rest) }
+        ensures row { IfSome result (λ f. IsSome f.fork.value.row) }
+        ensures fits { IfSome result (λ _. length self ≤ usize.MAX) }
+        ensures none { IfNone result (self ≡ []) }
+    {
+        let Opened { left, fork, right } = self.open()?;
+        match left.take_first() {
+            None => Some(First { fork, rest: right }),
+            Some(First { fork: first, rest }) => Some(First {
+                fork: first,
+                rest: join(fork, rest, right),
+            }),
+        }
+    }
+}
+
+fn filled<T: Drop>(spare: Spare<T>, row: T) -> Box<Fork<T>>
+    ensures { result.value.row ≡ Some row }
+{
+    let Spare { mut fork } = spare;
+    fork.row = Some(row);
+    fork
+}
+
+// The rows of both, in that order.
+fn glue<T: Drop>(left: Tree<T>, right: Tree<T>) -> Tree<T>
+    requires { length left + length right < usize.MAX }
+    ensures { result ≡ left ++ right }
+{
+    match right.take_first() {
+        None => left,
+        Some(First { fork, rest }) => join(fork, left, rest),
+    }
+}
+
+// A root over both sides.
+fn hang<T: Drop>(mut fork: Box<Fork<T>>, left: Tree<T>, right: Tree<T>) -> Tree<T>
+    requires row { IsSome fork.value.row }
+    requires fits { length left + length right < usize.MAX }
+    ensures { result ≡ left ++ (option_to_list fork.value.row ++ right) }
+{
+    fork.count = left.len() + right.len() + 1;
+    fork.left = left;
+    fork.right = right;
+    Tree { root: Some(fork) }
+}
+
+// A root over both sides, turned where one of them has more than three times the rows of the other.
+fn join<T: Drop>(fork: Box<Fork<T>>, left: Tree<T>, right: Tree<T>) -> Tree<T>
+    requires row { IsSome fork.value.row }
+    requires fits { length left + length right < usize.MAX }
+    ensures { result ≡ left ++ (option_to_list fork.value.row ++ right) }
+{
+    if left.len() / 3 > right.len() {
+        lean_left(fork, left, right)
+    } else if right.len() / 3 > left.len() {
+        lean_right(fork, left, right)
+    } else {
+        hang(fork, left, right)
+    }
+}
+
+fn lean_left<T: Drop>(fork: Box<Fork<T>>, left: Tree<T>, right: Tree<T>) -> Tree<T>
+    requires row { IsSome fork.value.row }
+    requires fits { length left + length right < usize.MAX }
+    ensures { result ≡ left ++ (option_to_list fork.value.row ++ right) }
+{
+    let Some(
+        Opened {
+            left,
+            fork: top,
+            right: inner,
+        },
+    ) = left.open()
+    else {
+        return hang(fork, Tree::new(), right);
+    };
+    if inner.len() / 2 <= left.len() {
+        return hang(top, left, hang(fork, inner, right));
+    }
+    let Some(
+        Opened {
+            left: first,
+            fork: middle,
+            right: second,
+        },
+    ) = inner.open()
+    else {
+        return hang(top, left, hang(fork, Tree::new(), right));
+    };
+    hang(middle, hang(top, left, first), hang(fork, second, right))
+}
+
+fn lean_right<T: Drop>(fork: Box<Fork<T>>, left: Tree<T>, right: Tree<T>) -> Tree<T>
+    requires row { IsSome fork.value.row }
+    requires fits { length left + length right < usize.MAX }
+    ensures { result ≡ left ++ (option_to_list fork.value.row ++ right) }
+{
+    let Some(
+        Opened {
+            left: inner,
+            fork: top,
+            right,
+        },
+    ) = right.open()
+    else {
+        return hang(fork, left, Tree::new());
+    };
+    if inner.len() / 2 <= right.len() {
+        return hang(top, hang(fork, left, inner), right);
+    }
+    let Some(
+        Opened {
+            left: first,
+            fork: middle,
+            right: second,
+        },
+    ) = inner.open()
+    else {
+        return hang(top, hang(fork, left, Tree::new()), right);
+    };
+    hang(middle, hang(fork, left, first), hang(top, second, right))
+}
+
+impl<T: Drop> Spare<T> {
+    /// A place, if there is memory for it.
+    pub fn new(alloc: Global) -> Result<Spare<T>, AllocError> {
+        Ok(Spare {
+            fork: Box::new(
+                alloc,
+                Fork {
+                    left: Tree::new(),
+                    right: Tree::new(),
+                    count: 0,
+                    row: None,
+                },
+            )?,
+        })
+    }
+}

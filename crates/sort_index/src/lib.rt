@@ -1,0 +1,12 @@
+//! The slots that are ready, of each queue and consumer in the order of their places, so that the least place past a place is at
+//! hand.
+#![tactic(auto)]
+
+mod bounds;
+mod group;
+mod index;
+mod steps;
+
+pub use group::{Group, Ready};
+pub use index::ReadyIndex;
+pub use steps::Steps;
