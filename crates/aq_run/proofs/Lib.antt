@@ -1,6 +1,6 @@
-pub mod Going
-pub mod Turning
-pub mod Pacing
+pub mod Fronts
+pub mod Playing
+pub mod Progress
 pub mod Rounding
 pub mod Running
-pub mod Playing
+pub mod Turning

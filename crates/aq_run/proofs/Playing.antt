@@ -5,12 +5,12 @@ use Rattle.queue_rows.specs.World.{World, opened, uncounted}
 use Rattle.queue_rows.specs.Turns.{closing_turn}
 use Rattle.queue_rows.specs.Serial.{Begins, EndsIn, IsSerial, IsSerialFront, IsOnTheWay, in_closing, rounds}
 use Rattle.queue_rows.specs.Tables.{empty_tables}
-use Rattle.queue_rows.specs.Built.{IsShortScript}
+use Rattle.built_statements.specs.Built.{IsShortScript}
 use Rattle.queue_rows.specs.declared.tables.Tables.{Tables}
 use Rattle.queue_rows.specs.declared.history.History.{History}
 use Rattle.queue_rows.specs.declared.history.SessionScript.{SessionScript}
-use Rattle.queue_rows.proofs.Rounds.{session-opened, scripts-opened}
-use Rattle.aq_world.specs.Course.{AreAt, AreTold}
+use Rattle.history_laws.proofs.Rounds.{session-opened, scripts-opened}
+use Rattle.aq_world.specs.Progress.{AreAt, AreTold}
 use Rattle.aq_run.specs.Rounds.{HasRun}
 
 abbrev begun : List SessionScript → World

@@ -5,7 +5,7 @@ use Rattle.queue_rows.specs.Turns.{background_turn}
 use Rattle.queue_rows.specs.Serial.{each, session_turns, background_turns, telling_turns, round}
 use Rattle.queue_rows.specs.Order.{IsFront}
 use Rattle.queue_rows.specs.declared.history.Entry.{Entry}
-use Rattle.queue_rows.proofs.Fronts.{Grows, grows-more, front_trans, grows_trans, grows-background_turn, grows-telling_turns}
+use Rattle.history_laws.proofs.Fronts.{Grows, grows-more, front_trans, grows_trans, grows-background_turn, grows-telling_turns}
 
 module _ (f : ℕ → World → World) where
   pub each_next : (at : ℕ) (w v new : World) → v ≡ each f at w → new ≡ f at v → new ≡ each f (at + 1) w

@@ -6,10 +6,10 @@ use Rattle.queue_rows.specs.Turns.{any_live}
 use Rattle.queue_rows.specs.Order.{IsFront}
 use Rattle.queue_rows.specs.declared.history.Entry.{Entry}
 use Rattle.queue_rows.specs.declared.history.SessionScript.{SessionScript}
-use Rattle.queue_rows.proofs.Fronts.{grows-closing}
-use Rattle.queue_rows.specs.Built.{IsShortScript}
-use Rattle.aq_world.specs.Course.{longest}
-use Rattle.aq_run.proofs.Going.{front_of}
+use Rattle.history_laws.proofs.Fronts.{grows-closing}
+use Rattle.built_statements.specs.Built.{IsShortScript}
+use Rattle.aq_world.specs.Progress.{longest}
+use Rattle.aq_run.proofs.Fronts.{front_of}
 
 pub rounds_none : (w : World) → w ≡ rounds 0 w
 unfolding rounds

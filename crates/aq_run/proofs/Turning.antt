@@ -3,7 +3,7 @@ use Rattle.std.proofs.Common.{◌≡◌, ◌≤◌, ◌+◌, ◌⊎◌, inl, inr
 use Rattle.std.specs.Prelude.{slice_get, is_some, if◌then◌else◌}
 use Rattle.std.proofs.lemmas.Bool.{le-ltb}
 use Rattle.queue_rows.specs.Session.{Session, Untold}
-use Rattle.queue_rows.specs.Meaning.{Meaning, answers, parks, unbuilt}
+use Rattle.queue_rows.specs.Meaning.{Meaning, answers, parks}
 use Rattle.queue_rows.specs.Statements.{meaning, next_statement}
 use Rattle.queue_rows.specs.World.{World, stepped, read_clock, with_session}
 use Rattle.queue_rows.specs.Turns.{turned_by, own_turn, turn_of, turn_of_some, session_turn, telling_of, telling_of_some, telling_turn, flushed, is_durable, all_durable, read_next, any_live, background_turn, closing_turn}
@@ -13,11 +13,11 @@ use Rattle.queue_rows.specs.declared.history.Step.{Step}
 use Rattle.queue_rows.specs.declared.history.Step.TheVariants.{Park, Flush, End}
 use Rattle.queue_rows.specs.declared.change.Change.{Change}
 use Rattle.queue_rows.proofs.Adding.{adds-called}
-use Rattle.queue_rows.proofs.Fronts.{Grows, grows-session_turn, flushed-told, entries-read_next}
+use Rattle.history_laws.proofs.Fronts.{Grows, grows-session_turn, flushed-told, entries-read_next}
 use Rattle.aq_world.specs.Turning.{turned, is_owed, IsBrokenOff}
 use Rattle.aq_world.specs.declared.turn_end.TurnEnd.{TurnEnd}
 use Rattle.aq_world.specs.declared.turn_end.TurnEnd.TheVariants as ends
-use Rattle.aq_run.proofs.Going.{front_of}
+use Rattle.aq_run.proofs.Fronts.{front_of}
 
 -- ---- whose turn it is
 
@@ -50,7 +50,6 @@ readings-flushed actor w = readings_unless (is_durable w) w (all_durable (steppe
 readings-turned : (i : ℕ) (s : Session) (m : Meaning) (w : World) → (turned_by i s m w).readings ≡ w.readings
 readings-turned i s (answers reply cs after) w = (adds-called i s after reply cs w).readings
 readings-turned i s (parks since) w = readings_unless (is_some s.parked) w (with_session i (record s { parked = Some since }) (stepped i w [] [] (Park (s.next + 1)))) (readings-stepped i w [] [] (Park (s.next + 1)))
-readings-turned i s unbuilt w = refl
 
 readings-own : (i : ℕ) (s : Session) (o : Option Statement) (w : World) → (own_turn i s o w).readings ≡ w.readings
 readings-own i s None w = readings-stepped i w [] [] End
@@ -159,7 +158,7 @@ flush_first_some : (i : ℕ) (o : Option Session) (w : World) → is_owed o ≡ 
 flush_first_some i None w e = absurd (let no : false ≡ true = e in cc)
 flush_first_some i (Some s) w e = flush_first i s s.untold w e
 
--- what is told stands behind the flush
+-- the telling comes behind the flush
 flush_before : (i : ℕ) (w : World) → is_owed (slice_get w.sessions i) ≡ true → Grows (flushed i w) (session_turn i w)
 unfolding session_turn
 flush_before i w e = flush_first_some i (slice_get w.sessions i) w e

@@ -31,13 +31,13 @@ empty_history = record { home = empty_tables; away = empty_tables; opening = 0; 
 
 -- ---- what is written
 
--- some first bytes of the text were written
-abbrev pub WritesFront : Option (List ℕ) → Option (List ℕ) → List ℕ → Type 0
-WritesFront old new text = (n : ℕ) × (n ≤ length text) × Appends old new (take n text)
+-- some first bytes of the text were written to the sink
+abbrev pub WritesFront : {S : Type 0} → (S → Option (List ℕ)) → S → S → List ℕ → Type 0
+WritesFront taken old new text = (n : ℕ) × (n ≤ length text) × Appends (taken old) (taken new) (take n text)
 
 -- the text was written whole, or some first bytes of it and the sink failed
-abbrev pub Tells : Option (List ℕ) → Option (List ℕ) → ℕ → ℕ → List ℕ → Type 0
-Tells taken_old taken_new faults_old faults_new text = Appends taken_old taken_new text ⊎ (WritesFront taken_old taken_new text × Rose faults_old faults_new)
+abbrev pub Tells : {S : Type 0} → (S → Option (List ℕ)) → (S → ℕ) → S → S → List ℕ → Type 0
+Tells taken faults old new text = Appends (taken old) (taken new) text ⊎ (WritesFront taken old new text × Rose (faults old) (faults new))
 
 -- ---- whose history it is
 
@@ -62,8 +62,8 @@ abbrev pub AnswersFront : List ℕ → History → Type 0
 AnswersFront input history = (history ≡ empty_history) ⊎ IsFrontOf input history
 
 -- the input is no script, and its first bad line is told
-abbrev pub AnswersBad : List ℕ → Option (List ℕ) → Option (List ℕ) → ℕ → ℕ → Type 0
-AnswersBad input taken_old taken_new faults_old faults_new = (line : ℕ) × (script input ≡ Err line) × Tells taken_old taken_new faults_old faults_new (bad_line_text line)
+abbrev pub AnswersBad : {S : Type 0} → (S → Option (List ℕ)) → (S → ℕ) → S → S → List ℕ → Type 0
+AnswersBad taken faults old new input = (line : ℕ) × (script input ≡ Err line) × Tells taken faults old new (bad_line_text line)
 
 -- ---- statuses
 

@@ -3,8 +3,6 @@
 
 mod play;
 mod rounds;
-#[cfg(test)]
-mod tests;
 mod top;
 
 pub use top::{Outcome, serve};

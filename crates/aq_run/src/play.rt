@@ -1,19 +1,17 @@
 // The serial run of scripts over empty databases.
-ghost use Rattle.std.specs.Prelude.{◌≡◌, true, false, All, IfOk};
-ghost use Rattle.queue_rows.specs.Tables.{empty_tables};
-ghost use Rattle.queue_rows.specs.Serial.{IsSerial, IsSerialFront};
-ghost use Rattle.queue_rows.specs.Built.{IsShortScript};
+ghost use Rattle.std.specs.Prelude.{◌≡◌, true, All, IfOk};
+ghost use Rattle.built_statements.specs.Built.{IsShortScript};
 ghost use Rattle.script_text.specs.Script.{AreWithinLimits};
-ghost use Rattle.aq_world.specs.Calls.{HasNoCalls};
+ghost use Rattle.aq_world.specs.DiskCalls.{HasNoCalls};
 ghost use Rattle.aq_run.specs.Serve.{IsRunBy, IsFrontBy};
 
 use crate::rounds::run;
 use aq_world::World;
-use payload_records::List;
-use queue_rows::{
-    History, SessionScript, legal_calls_in_order, serial_calls_all, serial_front_is_legal,
-    serial_is_legal,
+use history_laws::{
+    legal_calls_in_order, serial_calls_all, serial_front_is_legal, serial_is_legal,
 };
+use payload_records::List;
+use queue_rows::{History, SessionScript};
 use std::alloc::{AllocError, Global};
 
 /// A run's history, and whether the run came to its end.
@@ -29,8 +27,6 @@ pub struct Played {
 pub fn play(alloc: Global, scripts: List<SessionScript>) -> Result<Played, AllocError>
     requires within { AreWithinLimits scripts }
     requires short { All IsShortScript scripts }
-    ensures whole { IfOk result (λ p. p.is_whole ≡ true → IsSerial empty_tables empty_tables scripts p.history) }
-    ensures front { IfOk result (λ p. p.is_whole ≡ false → IsSerialFront empty_tables empty_tables scripts p.history) }
     ensures run { IfOk result (λ p. p.is_whole ≡ true → IsRunBy scripts p.history) }
     ensures first { IfOk result (λ p. IsFrontBy scripts p.history) }
     ensures calls { IfOk result (λ p. All HasNoCalls p.history.entries) }

@@ -1,11 +1,11 @@
 // The rounds of the serial schedule.
-ghost use Rattle.std.specs.Prelude.{◌≡◌, ◌≤◌, ◌<◌, ◌^◌, ◌+◌, ◌⊎◌, ℕ, length, slice_get, OnOk, OnErr, All, true};
-ghost use Rattle.queue_rows.specs.Built.{IsShortScript};
+ghost use Rattle.std.specs.Prelude.{◌≡◌, ◌≤◌, ◌<◌, ◌^◌, ◌+◌, ◌⊎◌, ℕ, length, OnOk, OnErr, All};
+ghost use Rattle.built_statements.specs.Built.{IsShortScript};
 ghost use Rattle.queue_rows.specs.Order.{IsFront};
 ghost use Rattle.queue_rows.specs.Serial.{session_turns, telling_turns, round, IsOnTheWay};
 ghost use Rattle.queue_rows.specs.Turns.{session_turn, telling_turn, background_turn, closing_turn};
-ghost use Rattle.aq_world.specs.Course.{longest, AreAt, AreTold, TakesTurn, HearsReply};
-ghost use Rattle.aq_world.specs.Turning.{IsWhole, is_owed};
+ghost use Rattle.aq_world.specs.Progress.{longest, AreAt, AreTold, TakesTurn, HearsReply};
+ghost use Rattle.aq_world.specs.Turning.{IsWhole, HearsReplyOwed};
 ghost use Rattle.aq_world.specs.declared.turn_end.TurnEnd.TheVariants.{Memory};
 ghost use Rattle.aq_run.specs.Rounds.{HasRun};
 
@@ -49,7 +49,7 @@ fn session_turn(world: &mut World, session: u32) -> Result<(), AllocError>
     requires readings { world.old.readings < 2 ^ 63 }
     ensures world { OnOk result (world.new ≡ session_turn session world.old) }
     ensures takes { OnOk result (TakesTurn session world.old world.new) }
-    ensures hears { OnOk result (is_owed (slice_get world.old.sessions session) ≡ true → HearsReply session world.old world.new) }
+    ensures hears { OnOk result (HearsReplyOwed session world.old world.new) }
     ensures front { OnErr result (IsFront world.new.entries (session_turn session world.old).entries) }
     ensures scripts { world.new.scripts ≡ world.old.scripts }
 {

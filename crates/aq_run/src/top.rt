@@ -1,11 +1,11 @@
 // The top call.
-ghost use Rattle.std.specs.Prelude.{◌≡◌, ◌≢◌, ◌↔◌, ◌⊎◌, ℕ, false, Err, All, IfOk, IfSome, IsErrOf, OnOk, OnErr};
+ghost use Rattle.std.specs.Prelude.{◌≡◌, ◌≢◌, ◌↔◌, ◌⊎◌, false, Err, All, IfOk, IfSome, IsErrOf, OnOk, OnErr};
 ghost use Rattle.std.specs.Io.KnownBytes.{Appends};
 ghost use Rattle.aq_base.specs.Causes.{Rose};
 ghost use Rattle.transcript.specs.Print.{print};
-ghost use Rattle.queue_rows.specs.Built.{IsShortScript};
+ghost use Rattle.built_statements.specs.Built.{IsShortScript};
 ghost use Rattle.script_text.specs.Script.{script, AreWithinLimits};
-ghost use Rattle.aq_world.specs.Calls.{HasNoCalls};
+ghost use Rattle.aq_world.specs.DiskCalls.{HasNoCalls};
 ghost use Rattle.aq_run.specs.Serve.{is_serial_run, usage_text, bad_line_text, empty_history, WritesFront, Tells, IsRunBy, IsFrontBy, IsRunOf, AnswersFront, AnswersBad, IsRun, IsStatus};
 
 use crate::play::{Played, play};
@@ -58,14 +58,14 @@ fn unbegun(alloc: Global, status: u8) -> Outcome
 
 /// Writes a text as far as the sink takes it.
 fn tell<O: Sink>(out: &mut O, text: &[u8])
-    ensures { Tells (O.taken out.old) (O.taken out.new) (O.faults out.old) (O.faults out.new) text.now }
+    ensures { Tells O.taken O.faults out.old out.new text.now }
 {
     let _ = write_all(out, text);
 }
 
 /// Tells the first bad line, as far as the sink takes it.
 fn tell_bad<O: Sink>(alloc: Global, out: &mut O, line: u64) -> Result<(), AllocError>
-    ensures told { OnOk result (Tells (O.taken out.old) (O.taken out.new) (O.faults out.old) (O.faults out.new) (bad_line_text line)) }
+    ensures told { OnOk result (Tells O.taken O.faults out.old out.new (bad_line_text line)) }
     ensures nothing { OnErr result (O.taken out.new ≡ O.taken out.old) }
 {
     let text = format!(in alloc; "bad line {line}\n")?;
@@ -77,7 +77,7 @@ fn tell_bad<O: Sink>(alloc: Global, out: &mut O, line: u64) -> Result<(), AllocE
 fn show<O: Sink>(alloc: Global, out: &mut O, history: &History) -> u8
     ensures known { IsRun result ⊎ (result ≡ 4) }
     ensures whole { result ≡ 0 → Appends (O.taken out.old) (O.taken out.new) (print history.now) }
-    ensures front { WritesFront (O.taken out.old) (O.taken out.new) (print history.now) }
+    ensures front { WritesFront O.taken out.old out.new (print history.now) }
     ensures fault { result ≡ 7 → Rose (O.faults out.old) (O.faults out.new) }
 {
     match print(alloc, history) {
@@ -105,7 +105,7 @@ fn run_serial<O: Sink>(alloc: Global, scripts: List<SessionScript>, out: &mut O)
     ensures known { IsRun result.status ⊎ (result.status ≡ 4) }
     ensures history { IsRun result.status → IsRunBy scripts result.history }
     ensures whole { result.status ≡ 0 → Appends (O.taken out.old) (O.taken out.new) (print result.history) }
-    ensures part { WritesFront (O.taken out.old) (O.taken out.new) (print result.history) }
+    ensures part { WritesFront O.taken out.old out.new (print result.history) }
     ensures write_fault { result.status ≡ 7 → Rose (O.faults out.old) (O.faults out.new) }
     ensures first { result.status ≡ 4 → (result.history ≡ empty_history) ⊎ IsFrontBy scripts result.history }
     ensures calls { All HasNoCalls result.history.entries }
@@ -127,10 +127,10 @@ fn run_serial<O: Sink>(alloc: Global, scripts: List<SessionScript>, out: &mut O)
 /// The run of the script that these bytes are.
 fn run_bytes<O: Sink>(alloc: Global, bytes: &[u8], out: &mut O) -> Outcome
     ensures known { IsRun result.status ⊎ ((result.status ≡ 2) ⊎ (result.status ≡ 4)) }
-    ensures bad { result.status ≡ 2 → AnswersBad bytes.now (O.taken out.old) (O.taken out.new) (O.faults out.old) (O.faults out.new) }
+    ensures bad { result.status ≡ 2 → AnswersBad O.taken O.faults out.old out.new bytes.now }
     ensures history { IsRun result.status → IsRunOf bytes.now result.history }
     ensures whole { result.status ≡ 0 → Appends (O.taken out.old) (O.taken out.new) (print result.history) }
-    ensures part { (result.status ≢ 2) → WritesFront (O.taken out.old) (O.taken out.new) (print result.history) }
+    ensures part { (result.status ≢ 2) → WritesFront O.taken out.old out.new (print result.history) }
     ensures write_fault { result.status ≡ 7 → Rose (O.faults out.old) (O.faults out.new) }
     ensures first { result.status ≡ 4 → AnswersFront bytes.now result.history }
     ensures empty { result.status ≡ 2 → result.history ≡ empty_history }
@@ -155,17 +155,19 @@ pub fn serve<I: Source, O: Sink>(
 ) -> Outcome
     ensures known { IsStatus result.status }
     ensures usage { (result.status ≡ 1) ↔ (is_serial_run words.now ≡ false) }
-    ensures usage_text { result.status ≡ 1 → Tells (O.taken out.old) (O.taken out.new) (O.faults out.old) (O.faults out.new) usage_text }
-    ensures read_fault { result.status ≡ 3 → Rose (I.faults input.old) (I.faults input.new) × (O.taken out.new ≡ O.taken out.old) }
-    ensures bad { result.status ≡ 2 → IfSome (I.left input.old) (λ xs. (line : ℕ) × (script xs ≡ Err line)
-        × Tells (O.taken out.old) (O.taken out.new) (O.faults out.old) (O.faults out.new) (bad_line_text line)) }
+    ensures usage_text { result.status ≡ 1 → Tells O.taken O.faults out.old out.new usage_text }
+    ensures read_fault { result.status ≡ 3
+        → Rose (I.faults input.old) (I.faults input.new) × (O.taken out.new ≡ O.taken out.old) }
+    ensures bad { result.status ≡ 2
+        → IfSome (I.left input.old) (AnswersBad O.taken O.faults out.old out.new) }
     ensures history { IsRun result.status → IfSome (I.left input.old) (λ xs. IsRunOf xs result.history) }
     ensures whole { result.status ≡ 0 → Appends (O.taken out.old) (O.taken out.new) (print result.history) }
-    ensures part { result.status ≡ 7 → WritesFront (O.taken out.old) (O.taken out.new) (print result.history) }
+    ensures part { result.status ≡ 7 → WritesFront O.taken out.old out.new (print result.history) }
     ensures write_fault { result.status ≡ 7 → Rose (O.faults out.old) (O.faults out.new) }
     ensures first { (result.status ≡ 4) → IfSome (I.left input.old) (λ xs. AnswersFront xs result.history) }
-    ensures front { result.status ≡ 4 → WritesFront (O.taken out.old) (O.taken out.new) (print result.history) }
-    ensures empty { (result.status ≡ 1) ⊎ (result.status ≡ 2) ⊎ (result.status ≡ 3) → result.history ≡ empty_history }
+    ensures front { result.status ≡ 4 → WritesFront O.taken out.old out.new (print result.history) }
+    ensures empty { (result.status ≡ 1) ⊎ (result.status ≡ 2) ⊎ (result.status ≡ 3)
+        → result.history ≡ empty_history }
     ensures calls { All HasNoCalls result.history.entries }
 {
     if !is_serial_run(words) {

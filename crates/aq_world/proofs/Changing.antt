@@ -4,13 +4,13 @@ use Rattle.std.specs.Prelude.{slice_get, slice_set, option_map, IfSome}
 use Rattle.std.proofs.Math.ListN.{length-set}
 use Rattle.std.proofs.lemmas.Option.{slice_get_within}
 use Rattle.aq_base.specs.declared.DbId.{DbId}
-use Rattle.row_locks.specs.Marks.{SessionMarks, marks_of, IsFreeFor}
-use Rattle.row_locks.specs.declared.mark.Mark.{Mark}
+use Rattle.slot_marks.specs.Marks.{SessionMarks, marks_of, IsFreeFor}
+use Rattle.slot_marks.specs.declared.mark.Mark.{Mark}
 use Rattle.queue_rows.specs.Session.{Session}
 use Rattle.queue_rows.proofs.Sessions.{same_or_not, get_set-same, get_set-other}
 use Rattle.sessions.specs.States.{AreMarks}
-use Rattle.aq_world.specs.Seated.{changed_in, changed_at, IsFreeIn}
-use Rattle.aq_world.proofs.Showing.{set_there}
+use Rattle.aq_world.specs.Sessions.{changed_in, changed_at, IsFreeIn}
+use Rattle.aq_world.proofs.ShownSessions.{set_there}
 
 got_in : (f : Session → Session) (ss : List Session) (i : ℕ) (o : Option Session) → slice_get ss i ≡ o → slice_get (changed_in i f ss o) i ≡ option_map f o
 got_in f ss i None there = there

@@ -5,15 +5,15 @@ use Rattle.queue_rows.specs.Session.{Session, Untold}
 use Rattle.queue_rows.specs.Statements.{next_statement}
 use Rattle.queue_rows.specs.World.{World, read_clock}
 use Rattle.queue_rows.specs.Turns.{called, ended, own_turn, session_turn, told, read_next}
-use Rattle.aq_world.specs.Course.{TakesTurn, HearsReply}
-use Rattle.aq_world.specs.Seated.{unmarked}
+use Rattle.aq_world.specs.Progress.{TakesTurn, HearsReply}
+use Rattle.aq_world.specs.Sessions.{unmarked}
 use Rattle.aq_world.specs.Turning.{is_owed, IsUntold, IsBrokenOff}
-use Rattle.aq_world.specs.Deeds.{done_by, IsNextDeed, DoesNext}
-use Rattle.aq_world.specs.declared.deed.Deed.{Deed}
+use Rattle.aq_world.specs.CallEffects.{done_by, IsNextCall, DoesNext}
+use Rattle.aq_world.specs.declared.call_effect.CallEffect.{CallEffect}
 use Rattle.aq_world.specs.declared.turn_end.TurnEnd.{TurnEnd}
 use Rattle.aq_world.specs.declared.turn_end.TurnEnd.TheVariants.{Done, Memory}
-use Rattle.aq_world.proofs.Going.{of_some}
-use Rattle.aq_world.proofs.Pacing.{takes_called, takes_ended, takes_told, hears_told}
+use Rattle.aq_world.proofs.Results.{of_some}
+use Rattle.aq_world.proofs.Progress.{takes_called, takes_ended, takes_told, hears_told}
 
 -- ---- how a turn ends
 
@@ -48,13 +48,13 @@ told_takes i n s w new there e is =
 pub told_heard : (i n : ℕ) (s : Session) (w new : World) → slice_get w.sessions i ≡ Some s → new ≡ told i s n w → HearsReply i w new
 told_heard i n s w new there is = subst (HearsReply i w) (sym is) (hears_told i s n w there)
 
-pub called_takes : (i : ℕ) (s : Session) (o : Option Deed) (deed : Deed) (w new : World) → slice_get w.sessions i ≡ Some s → o ≡ Some deed → IfSome (slice_get w.sessions i) (λ t. DoesNext w i t o)
-    → IfSome (slice_get w.sessions i) (λ t. new ≡ called i t deed.reply deed.commit (done_by deed t) w) → TakesTurn i w new
-called_takes i s o deed w new there is next called_is =
-    let n : IsNextDeed w i s deed = subst (DoesNext w i s) is (of_some (λ t. DoesNext w i t o) (slice_get w.sessions i) s there next) in
+pub called_takes : (i : ℕ) (s : Session) (o : Option CallEffect) (call : CallEffect) (w new : World) → slice_get w.sessions i ≡ Some s → o ≡ Some call → IfSome (slice_get w.sessions i) (λ t. DoesNext w i t o)
+    → IfSome (slice_get w.sessions i) (λ t. new ≡ called i t call.reply call.commit (done_by call t) w) → TakesTurn i w new
+called_takes i s o call w new there is next called_is =
+    let n : IsNextCall w i s call = subst (DoesNext w i s) is (of_some (λ t. DoesNext w i t o) (slice_get w.sessions i) s there next) in
     let left = n.left in
-    subst (TakesTurn i w) (sym (of_some (λ t. new ≡ called i t deed.reply deed.commit (done_by deed t) w) (slice_get w.sessions i) s there called_is))
-    (takes_called i s (done_by deed s) deed.reply deed.commit w w there refl refl (omega (arith, left)))
+    subst (TakesTurn i w) (sym (of_some (λ t. new ≡ called i t call.reply call.commit (done_by call t) w) (slice_get w.sessions i) s there called_is))
+    (takes_called i s (done_by call s) call.reply call.commit w w there refl refl (omega (arith, left)))
 
 pub ended_takes : (i : ℕ) (s : Session) (w new : World) → slice_get w.sessions i ≡ Some s → IfSome (slice_get w.sessions i) (λ t. new ≡ ended i t w) → TakesTurn i w new
 ended_takes i s w new there is = subst (TakesTurn i w) (sym (of_some (λ t. new ≡ ended i t w) (slice_get w.sessions i) s there is)) (takes_ended i s w w there refl refl)

@@ -1,9 +1,9 @@
 pub mod Administering
-pub mod Booked
-pub mod Calls
-pub mod Course
-pub mod Deeds
+pub mod CallEffects
+pub mod CallEntries
+pub mod DiskCalls
 pub mod Locks
-pub mod Seated
+pub mod Progress
+pub mod Sessions
 pub mod Sound
 pub mod Turning

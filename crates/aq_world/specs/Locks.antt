@@ -2,8 +2,8 @@
 use Rattle.std.specs.Prelude.{◌≡◌, ◌≢◌, ◌⊎◌, ◌+◌, ℕ, List, [], ◌∷◌, false}
 use Rattle.aq_base.specs.declared.DbId.{DbId}
 use Rattle.aq_base.specs.declared.DbId.TheVariants.{Home, Away}
-use Rattle.row_locks.specs.declared.mark.Mark.{Mark}
-use Rattle.row_locks.specs.Marks.{SessionMarks, marks_of}
+use Rattle.slot_marks.specs.declared.mark.Mark.{Mark}
+use Rattle.slot_marks.specs.Marks.{SessionMarks, marks_of}
 use Rattle.queue_rows.specs.Session.{Session, is_same_db}
 use Rattle.aq_world.specs.declared.locks.Locks.{Locks}
 

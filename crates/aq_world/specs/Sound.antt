@@ -4,12 +4,12 @@ use Rattle.aq_base.specs.declared.DbId.{DbId}
 use Rattle.aq_base.specs.declared.DbId.TheVariants.{Home, Away}
 use Rattle.queue_rows.specs.Session.{Session, is_same_db}
 use Rattle.queue_rows.specs.World.{World, Database}
-use Rattle.aq_world.specs.Deeds.{additions_of, IsPendingBelow}
+use Rattle.aq_world.specs.CallEffects.{additions_of, IsPendingBelow}
 
 -- of two databases, the one of that name
-abbrev pub side_at : DbId → Database → Database → Database
-side_at Home home away = home
-side_at Away home away = away
+abbrev pub database_of : DbId → Database → Database → Database
+database_of Home home away = home
+database_of Away home away = away
 
 abbrev pub other_db : DbId → DbId
 other_db Home = Away
@@ -35,8 +35,8 @@ pub record IsSound (home away : Database) (sessions : List Session) (moment read
   pub away_made : away.made ≤ readings
   pub in_time : moment ≤ 2 ^ 62
   pub few : length sessions ≤ 64
-  pub each : (i : ℕ) (s : Session) → slice_get sessions i ≡ Some s → IsSoundSession (side_at s.at home away).next s
-  pub groups : (db : DbId) → (side_at db home away).tables.transaction + additions_at db sessions ≤ (side_at db home away).next
+  pub each : (i : ℕ) (s : Session) → slice_get sessions i ≡ Some s → IsSoundSession (database_of s.at home away).next s
+  pub groups : (db : DbId) → (database_of db home away).tables.transaction + additions_at db sessions ≤ (database_of db home away).next
 
 -- the clock was read since the last commit
 pub record IsRead (w : World) : Type 0 where

@@ -3,6 +3,7 @@ use Rattle.std.specs.Prelude.{◌≡◌, ◌⊎◌, ◌&&◌, ◌<◌, ℕ, Bool
 use Rattle.queue_rows.specs.Session.{Session}
 use Rattle.queue_rows.specs.World.{World}
 use Rattle.queue_rows.specs.Turns.{session_turn, background_turn, any_live, read_next, flushed}
+use Rattle.aq_world.specs.Progress.{HearsReply}
 use Rattle.aq_world.specs.declared.turn_end.TurnEnd.{TurnEnd}
 use Rattle.aq_world.specs.declared.turn_end.TurnEnd.TheVariants as ends
 
@@ -48,6 +49,10 @@ IsEnd ends.Memory = Unit {0}
 abbrev pub is_owed : Option Session → Bool
 is_owed None = false
 is_owed (Some s) = is_some s.untold
+
+-- a session that was owed a reply is told it, and stays as it was else
+abbrev pub HearsReplyOwed : ℕ → World → World → Type 0
+HearsReplyOwed i old new = is_owed (slice_get old.sessions i) ≡ true → HearsReply i old new
 
 -- a telling was broken off: at most commits were made durable
 abbrev pub IsUntold : ℕ → World → World → Type 0

@@ -1,56 +1,40 @@
 // What an administrative statement is answered.
-ghost use Rattle.std.specs.Prelude.{◌≡◌, ◌≤◌, ◌^◌, ℕ, List as Sequence, [], Option as Choice, None, Some, false, All, IfOk};
-ghost use Rattle.queue_rows.specs.Built.{IsBuiltAdmin};
-ghost use Rattle.queue_rows.specs.Administration.{administer, accepted, start, started, exception_row, new_queue};
-ghost use Rattle.queue_rows.specs.Meaning.{refused};
+ghost use Rattle.std.specs.Prelude.{◌≡◌, ℕ, None, Some, Err, false, All, IfOk};
+ghost use Rattle.built_statements.specs.Built.{IsBuiltAdmin};
+ghost use Rattle.queue_rows.specs.Catalog.{judged, start, started, exception_row, new_queue};
+ghost use Rattle.queue_rows.specs.Meaning.{answers, unparked};
 ghost use Rattle.queue_rows.specs.Rows.{find_queue};
-ghost use Rattle.queue_rows.specs.Session.{Session};
 ghost use Rattle.queue_rows.specs.Turns.{ids_taken};
 ghost use Rattle.queue_rows.specs.declared.statement.Admin.TheVariants as asks;
 ghost use Rattle.queue_rows.specs.declared.reply.Reply.TheVariants.{Ok};
-ghost use Rattle.sessions.specs.Effects.{meant, IsAnswered, ids_of};
-ghost use Rattle.sessions.specs.Within.{IsQueueWithin, IsWithin};
-ghost use Rattle.sessions.specs.declared.state.Verdict.TheVariants.{Answer};
+ghost use Rattle.sessions.specs.Effects.{IsAnswered, ids_of};
+ghost use Rattle.sessions.specs.Within.{IsQueueWithin};
 ghost use Rattle.sessions.specs.declared.state.PositionMove.TheVariants.{Keep};
-ghost use Rattle.aq_world.specs.Administering.{add_queue, IsPlainEffect};
+ghost use Rattle.aq_world.specs.Administering.{add_queue, Administers, HasJudged, HasMeaning, CommitsWithin, IsPlainEffect};
 
 use exception_queues::{find_queue, find_table, is_exception};
 use message_store::Store;
 use payload_records::{Copied, List, Name, RecordType};
 use place_keys::SortList;
 use queue_rows::{Admin, Change, QueueKind, QueueRow, Reply, TableRow, Tables};
-use sessions::{Effect, PositionMove, Verdict};
+use sessions::{Effect, Verdict};
 use std::alloc::{AllocError, Global};
-
-/// A reply with what is committed, and nothing besides.
-fn effect(reply: Reply, commit: List<Change>) -> Effect
-    ensures { result ≡ record { verdict = Answer reply; commit = commit; pend = None; mark = None; unmark = None; position = Keep } }
-{
-    Effect {
-        verdict: Verdict::Answer(reply),
-        commit,
-        pend: None,
-        mark: None,
-        unmark: None,
-        position: PositionMove::Keep,
-    }
-}
 
 fn refused(alloc: Global, reply: Reply) -> Effect
     requires { ids_taken reply ≡ 0 }
-    ensures means { (s : Session) (queue : Sequence ℕ) (consumer : Choice (Sequence ℕ)) (moment : ℕ) → refused s reply ≡ meant result queue consumer moment s }
+    ensures means { HasJudged (Err reply) result }
     ensures plain { IsPlainEffect result }
-    ensures within { (n g r : ℕ) → All (IsWithin n g r) result.commit }
+    ensures within { CommitsWithin result }
 {
-    effect(reply, List::new(alloc))
+    Effect::answered(alloc, reply)
 }
 
 fn accepted(commit: List<Change>) -> Effect
-    ensures means { (s : Session) (queue : Sequence ℕ) (consumer : Choice (Sequence ℕ)) (moment : ℕ) → accepted s commit ≡ meant result queue consumer moment s }
+    ensures means { HasMeaning (λ s. answers Ok commit (unparked s)) result }
     ensures plain { IsPlainEffect result }
     ensures commit { result.commit ≡ commit }
 {
-    effect(Reply::Ok, commit)
+    Effect::plain(Verdict::Answer(Reply::Ok), commit)
 }
 
 fn exception_row(table: &Name) -> Result<QueueRow, AllocError>
@@ -69,6 +53,7 @@ fn exception_row(table: &Name) -> Result<QueueRow, AllocError>
     })
 }
 
+#[tactic(auto, unfolding(queue_rows::specs::Catalog::judged))]
 fn create_table(
     alloc: Global,
     tables: &Tables,
@@ -76,9 +61,10 @@ fn create_table(
     fields: &RecordType,
     sort: &SortList,
 ) -> Result<Effect, AllocError>
-    ensures means { IfOk result (λ e. (s : Session) (queue : Sequence ℕ) (consumer : Choice (Sequence ℕ)) (moment : ℕ) → administer tables.now s (asks.CreateTable table.now fields.now sort.now false false) ≡ meant e queue consumer moment s) }
+    ensures means { (now : ℕ) → IfOk result (HasJudged
+        (judged tables.now (asks.CreateTable table.now fields.now sort.now false false) now)) }
     ensures plain { IfOk result IsPlainEffect }
-    ensures within { IfOk result (λ e. (n g r : ℕ) → All (IsWithin n g r) e.commit) }
+    ensures within { IfOk result CommitsWithin }
 {
     let exception = exception_row(table)?;
     if find_table(tables, table).is_some() || find_queue(tables, &exception.name).is_some() {
@@ -122,9 +108,9 @@ fn new_queue(
 
 fn create_queue(alloc: Global, tables: &Tables, row: QueueRow) -> Result<Effect, AllocError>
     requires { IsQueueWithin row }
-    ensures means { IfOk result (λ e. (s : Session) (queue : Sequence ℕ) (consumer : Choice (Sequence ℕ)) (moment : ℕ) → add_queue tables.now s row ≡ meant e queue consumer moment s) }
+    ensures means { IfOk result (HasJudged (add_queue tables.now row)) }
     ensures plain { IfOk result IsPlainEffect }
-    ensures within { IfOk result (λ e. (n g r : ℕ) → All (IsWithin n g r) e.commit) }
+    ensures within { IfOk result CommitsWithin }
 {
     if find_table(tables, &row.table).is_none() {
         return Ok(refused(alloc, Reply::NoTable));
@@ -154,9 +140,9 @@ fn start_row(
     dequeue: bool,
 ) -> Result<Effect, AllocError>
     requires { IsQueueWithin row.now }
-    ensures means { IfOk result (λ e. (s : Session) (queue : Sequence ℕ) (consumer : Choice (Sequence ℕ)) (moment : ℕ) → start s (Some row.now) enqueue dequeue ≡ meant e queue consumer moment s) }
+    ensures means { IfOk result (HasJudged (start (Some row.now) enqueue dequeue)) }
     ensures plain { IfOk result IsPlainEffect }
-    ensures within { IfOk result (λ e. (n g r : ℕ) → All (IsWithin n g r) e.commit) }
+    ensures within { IfOk result CommitsWithin }
 {
     if is_exception(row.kind) && enqueue.unwrap_or(false) {
         return Ok(refused(alloc, Reply::WrongKind));
@@ -174,9 +160,9 @@ fn start_queue(
     dequeue: bool,
 ) -> Result<Effect, AllocError>
     requires { All IsQueueWithin tables.now.queues }
-    ensures means { IfOk result (λ e. (s : Session) (asked : Sequence ℕ) (consumer : Choice (Sequence ℕ)) (moment : ℕ) → start s (find_queue tables.now queue.now) enqueue dequeue ≡ meant e asked consumer moment s) }
+    ensures means { IfOk result (HasJudged (start (find_queue tables.now queue.now) enqueue dequeue)) }
     ensures plain { IfOk result IsPlainEffect }
-    ensures within { IfOk result (λ e. (n g r : ℕ) → All (IsWithin n g r) e.commit) }
+    ensures within { IfOk result CommitsWithin }
 {
     match find_queue(tables, queue) {
         Some(row) => start_row(alloc, row, enqueue, dequeue),
@@ -184,12 +170,13 @@ fn start_queue(
     }
 }
 
+#[tactic(auto, unfolding(queue_rows::specs::Administration::administer, queue_rows::specs::Catalog::judged))]
 fn admin_of(alloc: Global, tables: &Tables, ask: &Admin) -> Result<Effect, AllocError>
     requires built { IsBuiltAdmin ask.now }
     requires queues { All IsQueueWithin tables.now.queues }
-    ensures means { IfOk result (λ e. (s : Session) (queue : Sequence ℕ) (consumer : Choice (Sequence ℕ)) (moment : ℕ) → administer tables.now s ask.now ≡ meant e queue consumer moment s) }
+    ensures means { IfOk result (Administers tables.now ask.now) }
     ensures plain { IfOk result IsPlainEffect }
-    ensures within { IfOk result (λ e. (n g r : ℕ) → All (IsWithin n g r) e.commit) }
+    ensures within { IfOk result CommitsWithin }
 {
     match ask {
         Admin::CreateTable {
@@ -222,10 +209,10 @@ fn admin_of(alloc: Global, tables: &Tables, ask: &Admin) -> Result<Effect, Alloc
 pub fn admin(alloc: Global, store: &Store, ask: &Admin) -> Result<Effect, AllocError>
     requires built { IsBuiltAdmin ask.now }
     requires queues { All IsQueueWithin store.now.queues }
-    ensures means { IfOk result (λ e. (s : Session) (queue : Sequence ℕ) (consumer : Choice (Sequence ℕ)) (moment : ℕ) → administer store.now s ask.now ≡ meant e queue consumer moment s) }
+    ensures means { IfOk result (Administers store.now ask.now) }
     ensures answered { IfOk result (λ e. IsAnswered e.verdict) }
     ensures no_id { IfOk result (λ e. ids_of e.verdict ≡ 0) }
-    ensures within { IfOk result (λ e. (n g r : ℕ) → All (IsWithin n g r) e.commit) }
+    ensures within { IfOk result CommitsWithin }
     ensures unmarked { IfOk result (λ e. e.mark ≡ None) }
     ensures done { IfOk result (λ e. e.pend ≡ None) }
     ensures stays { IfOk result (λ e. e.position ≡ Keep) }

@@ -2,14 +2,14 @@
 #![tactic(auto)]
 
 mod admin;
-mod booking;
-mod calling;
-mod deed;
+mod apply;
+mod call_effect;
+mod call_entry;
 mod locks;
 mod respond;
-mod seat;
-mod seats;
-mod side;
+mod run_database;
+mod run_session;
+mod session_registry;
 mod turn_end;
 mod world;
 

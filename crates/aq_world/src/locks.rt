@@ -1,13 +1,13 @@
 // The marks of all sessions, at both databases.
 ghost use Rattle.std.specs.Prelude.{◌≡◌, ◌<◌, [], OnOk};
-ghost use Rattle.row_locks.specs.Marks.{marks_of, spare_of, taken, released, IsFreeFor, ChangesOnly};
+ghost use Rattle.slot_marks.specs.Marks.{marks_of, spare_of, taken, released, IsFreeFor, ChangesOnly};
 ghost use Rattle.aq_world.specs.Locks.{locks_at, marks_at, KeepsMarks, ChangesMarks};
 
 use aq_base::DbId;
 use row_locks::{Mark, RowLocks};
 use std::alloc::{AllocError, Global};
 
-/// The marks of all sessions, by the database at which they stand.
+/// The marks of all sessions, by their database.
 #[derive(Drop)]
 pub struct Locks {
     home: RowLocks,
@@ -73,7 +73,8 @@ impl Locks {
 
     /// Frees the session's mark on the slot, if it has one. It takes no memory.
     pub fn release_one(&mut self, db: DbId, session: u32, id: u64, slot: u32)
-        ensures { ChangesMarks db session (released (marks_at db session self.old) id slot) self.old self.new }
+        ensures { let marks = released (marks_at db session self.old) id slot in
+            ChangesMarks db session marks self.old self.new }
     {
         match db {
             DbId::Home => self.home.release_one(session, id, slot),

@@ -1,24 +1,25 @@
 // The state of a run.
-ghost use Rattle.std.specs.Prelude.{◌≡◌, ◌≢◌, ◌↔◌, ◌⊎◌, ◌≤◌, ◌<◌, ◌^◌, ◌+◌, [], ◌∷◌, ◌++◌, ℕ, map, length, true, false, All, IfOk, IfSome, OnOk, OnErr, Some, None, slice_get, option_map, MatchResult, option_copied};
-ghost use Rattle.queue_rows.specs.Built.{IsBuiltScript, IsShortScript};
+ghost use Rattle.std.specs.Prelude.{◌≡◌, ◌≢◌, ◌↔◌, ◌⊎◌, ◌≤◌, ◌<◌, ◌^◌, ◌+◌, [], map, length, true, false, All, IfOk, OnOk, OnErr, Some, None, slice_get, option_map, MatchResult, option_copied};
+ghost use Rattle.built_statements.specs.Built.{IsBuiltScript, IsShortScript};
 ghost use Rattle.queue_rows.specs.Tables.{empty_tables};
 ghost use Rattle.queue_rows.specs.World.{database_at, opened, uncounted, stepped, at_home, at_away};
 ghost use Rattle.queue_rows.specs.Serial.{Begins};
-ghost use Rattle.queue_rows.specs.Statements.{next_statement, statement_of};
-ghost use Rattle.queue_rows.specs.Turns.{any_live, closing_turn, read_next, step_reading, ids_taken, is_durable, flushed, told, ended, called, own_turn, session_turn, background_turn};
-ghost use Rattle.aq_world.specs.Calls.{HasNoCalls};
-ghost use Rattle.aq_world.specs.Course.{TakesTurn, HearsReply};
-ghost use Rattle.aq_world.specs.Deeds.{IsNextDeed, DoesNext, done_by};
+ghost use Rattle.queue_rows.specs.Statements.{statement_of};
+ghost use Rattle.queue_rows.specs.Turns.{any_live, closing_turn, read_next, step_reading, ids_taken, is_durable, flushed, told, ended, own_turn, session_turn, background_turn};
+ghost use Rattle.aq_world.specs.DiskCalls.{HasNoCalls};
+ghost use Rattle.aq_world.specs.Progress.{TakesTurn, HearsReply};
+ghost use Rattle.aq_world.specs.CallEffects.{IsNextCall, DoesNext, called_with, turned_itself};
+ghost use Rattle.aq_world.specs.Sessions.{OfSession};
 ghost use Rattle.aq_world.specs.Sound.{IsRead};
-ghost use Rattle.aq_world.specs.Turning.{IsActor, IsWhole, IsEnd, IsBrokenOff, IsUntold, turned, has_ended, is_over, is_owed};
+ghost use Rattle.aq_world.specs.Turning.{IsActor, IsWhole, IsEnd, IsBrokenOff, IsUntold, HearsReplyOwed, turned, has_ended, is_over, is_owed};
 ghost use Rattle.aq_world.specs.declared.turn_end.TurnEnd.TheVariants.{Done, Idle, Ended, Memory};
 
-use crate::booking::Booking;
-use crate::calling::take_over_at;
-use crate::deed::Deed;
-use crate::respond::respond;
-use crate::seats::Seats;
-use crate::side::Side;
+use crate::apply::{Call, apply_at};
+use crate::call_effect::CallEffect;
+use crate::call_entry::CallEntry;
+use crate::respond::{Caller, respond};
+use crate::run_database::RunDatabase;
+use crate::session_registry::SessionRegistry;
 use crate::turn_end::TurnEnd;
 use aq_base::{DbId, MOMENT_LIMIT};
 use payload_records::List;
@@ -38,9 +39,9 @@ const TIMER: u32 = 64;
 pub struct World {
     alloc: Global,
     history: History,
-    home: Side,
-    away: Side,
-    seats: Seats,
+    home: RunDatabase,
+    away: RunDatabase,
+    registry: SessionRegistry,
     moment: u64,
     readings: u64,
 }
@@ -49,10 +50,10 @@ impl Model for World {
     ghost use Rattle.std.specs.Prelude.{◌≡◌, All, map, None};
     ghost use Rattle.std.specs.Coded.{codes};
     ghost use Rattle.rule_conditions.specs.contracts.condition.Cond as cond;
-    ghost use Rattle.queue_rows.specs.Built.{IsBuiltScript, IsShortScript};
+    ghost use Rattle.built_statements.specs.Built.{IsBuiltScript, IsShortScript};
     ghost use Rattle.queue_rows.specs.World.{World as Run, uncounted};
     ghost use Rattle.queue_rows.specs.Tables.{empty_tables};
-    ghost use Rattle.aq_world.specs.Calls.{HasNoCalls};
+    ghost use Rattle.aq_world.specs.DiskCalls.{HasNoCalls};
     ghost use Rattle.aq_world.specs.Sound.{IsSound};
 
     ghost Value = { Run };
@@ -63,7 +64,7 @@ impl Model for World {
       home = w.home;
       away = w.away;
       scripts = w.history.scripts;
-      sessions = w.seats.sessions;
+      sessions = w.registry.sessions;
       transit = None;
       opening = w.history.opening;
       moment = w.moment;
@@ -72,7 +73,7 @@ impl Model for World {
     } };
 
     ghost invariant = { λ w. record {
-      sound : IsSound w.home w.away w.seats.sessions w.moment w.readings;
+      sound : IsSound w.home w.away w.registry.sessions w.moment w.readings;
       built : All IsBuiltScript w.history.scripts;
       short : All IsShortScript w.history.scripts;
       calls : All HasNoCalls w.history.entries;
@@ -171,68 +172,70 @@ impl World {
     /// Tells the session of that number the reply to its statement, once every commit is durable. At want of memory all is as before,
     /// but that every commit may be durable.
     fn tell(&mut self, at: u32, number: u32) -> Result<(), AllocError>
-        ensures ok { OnOk result (IfSome (slice_get self.old.sessions at) (λ s. self.new ≡ told at s number self.old)) }
+        ensures ok { OnOk result (OfSession at self.old (λ s. self.new ≡ told at s number self.old)) }
         ensures err { OnErr result (IsUntold at self.old self.new) }
     {
         self.flush(at)?;
         self.note(at, Step::Told { number })?;
-        self.seats.tell(at);
+        self.registry.tell(at);
         Ok(())
     }
 
     /// Ends the session of that number. At want of memory all is as before.
     fn end(&mut self, at: u32) -> Result<(), AllocError>
-        ensures ok { OnOk result (IfSome (slice_get self.old.sessions at) (λ s. self.new ≡ ended at s self.old)) }
+        ensures ok { OnOk result (OfSession at self.old (λ s. self.new ≡ ended at s self.old)) }
         ensures err { OnErr result (self.new ≡ self.old) }
     {
         self.note(at, Step::End)?;
-        self.seats.end(at);
+        self.registry.end(at);
         Ok(())
     }
 
     /// The session of that number calls its next statement, which does this. At want of memory all is as before.
-    fn call(&mut self, at: u32, deed: Deed) -> Result<(), AllocError>
+    fn call(&mut self, at: u32, effect: CallEffect) -> Result<(), AllocError>
         requires read { IsRead self.old }
-        requires deed { IfSome (slice_get self.old.sessions at) (λ s. IsNextDeed self.old at s deed) }
-        ensures ok { OnOk result (IfSome (slice_get self.old.sessions at) (λ s. self.new ≡ called at s deed.reply deed.commit (done_by deed s) self.old)) }
+        requires effect { OfSession at self.old (λ s. IsNextCall self.old at s effect) }
+        ensures ok { OnOk result (OfSession at self.old (λ s. self.new ≡ called_with at effect self.old s)) }
         ensures err { OnErr result (self.new ≡ self.old) }
     {
-        let Some(seat) = self.seats.get(at) else {
+        let Some(session) = self.registry.get(at) else {
             return Ok(());
         };
-        let (db, number) = (seat.state().at, seat.state().next + 1);
-        let Deed {
+        let (db, number) = (session.state().at, session.state().next + 1);
+        let CallEffect {
             reply,
             commit,
             holdings,
             positions,
-        } = deed;
+        } = effect;
         let ids = ids_taken(&reply);
         let (home, away) = commit_lists(self.alloc, db, commit);
-        let booking = Booking {
-            session: at,
-            db,
-            entry: Entry {
-                actor: at,
-                moment: self.moment,
-                readings: self.readings,
-                home_calls: 0,
-                away_calls: 0,
-                home,
-                away,
-                step: Step::Call { number, reply },
+        let call = Call {
+            entered: CallEntry {
+                session: at,
+                db,
+                entry: Entry {
+                    actor: at,
+                    moment: self.moment,
+                    readings: self.readings,
+                    home_calls: 0,
+                    away_calls: 0,
+                    home,
+                    away,
+                    step: Step::Call { number, reply },
+                },
+                ids,
             },
-            ids,
+            holdings,
         };
-        take_over_at(
-            &mut self.seats,
+        apply_at(
+            &mut self.registry,
             &mut self.home,
             &mut self.away,
             &mut self.history.entries,
-            booking,
-            holdings,
+            call,
         )?;
-        self.seats
+        self.registry
             .call(at, positions, self.home.made(), self.away.made());
         Ok(())
     }
@@ -248,7 +251,7 @@ impl World {
     }
 
     /// The database of that name.
-    fn side(&self, db: DbId) -> &Side
+    fn database(&self, db: DbId) -> &RunDatabase
         ensures { result.now ≡ database_at db self.now }
     {
         match db {
@@ -258,49 +261,48 @@ impl World {
     }
 
     /// What the next statement of the session of that number does, or None where it has called all.
-    fn next_deed(&self, at: u32) -> Result<Option<Deed>, AllocError>
+    fn next_call(&self, at: u32) -> Result<Option<CallEffect>, AllocError>
         requires { IsRead self.now }
-        ensures { IfOk result (λ o. IfSome (slice_get self.now.sessions at) (λ s. DoesNext self.now at s o)) }
+        ensures { IfOk result (λ o. OfSession at self.now (λ s. DoesNext self.now at s o)) }
     {
-        let Some(seat) = self.seats.get(at) else {
+        let Some(session) = self.registry.get(at) else {
             return Ok(None);
         };
-        let state = seat.state();
+        let state = session.state();
         let Some(statement) = self.statement(at, state.next) else {
             return Ok(None);
         };
-        Ok(Some(respond(
-            self.alloc,
-            self.side(state.at),
-            self.seats.locks(state.at),
-            at,
-            seat,
-            statement,
-            self.moment,
-        )?))
+        let caller = Caller {
+            actor: at,
+            session,
+            database: self.database(state.at),
+            locks: self.registry.locks(state.at),
+            moment: self.moment,
+        };
+        Ok(Some(respond(self.alloc, caller, statement)?))
     }
 
     /// The session of that number calls its next statement, or ends where it has called all. At want of memory all is as before.
     fn own_turn(&mut self, at: u32) -> Result<(), AllocError>
         requires { IsRead self.old }
-        ensures ok { OnOk result (IfSome (slice_get self.old.sessions at) (λ s. self.new ≡ own_turn at s (next_statement self.old at s) self.old)) }
-        ensures takes { OnOk result (IfSome (slice_get self.old.sessions at) (λ s. TakesTurn at self.old self.new)) }
+        ensures ok { OnOk result (OfSession at self.old (λ s. self.new ≡ turned_itself at self.old s)) }
+        ensures takes { OnOk result (OfSession at self.old (λ s. TakesTurn at self.old self.new)) }
         ensures err { OnErr result (self.new ≡ self.old) }
     {
-        match self.next_deed(at)? {
-            Some(deed) => self.call(at, deed),
+        match self.next_call(at)? {
+            Some(effect) => self.call(at, effect),
             None => self.end(at),
         }
     }
 
     /// A turn in which the session of that number is told the reply to its statement.
     fn telling_turn(&mut self, at: u32, number: u32) -> TurnEnd
-        requires { IfSome (slice_get self.old.sessions at) (λ s. option_map (λ u. u.number) s.untold ≡ Some number) }
+        requires { OfSession at self.old (λ s. option_map (λ u. u.number) s.untold ≡ Some number) }
         ensures known { (result ≡ Done) ⊎ (result ≡ Memory) }
-        ensures world { result ≡ Done → IfSome (slice_get self.old.sessions at) (λ s. self.new ≡ session_turn at self.old) }
+        ensures world { result ≡ Done → OfSession at self.old (λ s. self.new ≡ session_turn at self.old) }
         ensures memory { result ≡ Memory → IsUntold at self.old self.new }
-        ensures takes { result ≡ Done → IfSome (slice_get self.old.sessions at) (λ s. TakesTurn at self.old self.new) }
-        ensures hears { result ≡ Done → IfSome (slice_get self.old.sessions at) (λ s. HearsReply at self.old self.new) }
+        ensures takes { result ≡ Done → OfSession at self.old (λ s. TakesTurn at self.old self.new) }
+        ensures hears { result ≡ Done → OfSession at self.old (λ s. HearsReply at self.old self.new) }
     {
         end_of(self.tell(at, number))
     }
@@ -308,12 +310,12 @@ impl World {
     /// A turn in which the session of that number, which was told all and goes on, calls a statement or ends.
     fn calling_turn(&mut self, at: u32) -> TurnEnd
         requires readings { self.old.readings < 2 ^ 63 }
-        requires told { IfSome (slice_get self.old.sessions at) (λ s. s.untold ≡ None) }
-        requires live { IfSome (slice_get self.old.sessions at) (λ s. s.live ≡ true) }
+        requires told { OfSession at self.old (λ s. s.untold ≡ None) }
+        requires live { OfSession at self.old (λ s. s.live ≡ true) }
         ensures known { (result ≡ Done) ⊎ (result ≡ Memory) }
-        ensures world { result ≡ Done → IfSome (slice_get self.old.sessions at) (λ s. self.new ≡ session_turn at self.old) }
+        ensures world { result ≡ Done → OfSession at self.old (λ s. self.new ≡ session_turn at self.old) }
         ensures memory { result ≡ Memory → self.new ≡ read_next self.old }
-        ensures takes { result ≡ Done → IfSome (slice_get self.old.sessions at) (λ s. TakesTurn at self.old self.new) }
+        ensures takes { result ≡ Done → OfSession at self.old (λ s. TakesTurn at self.old self.new) }
     {
         self.read_clock();
         end_of(self.own_turn(at))
@@ -329,15 +331,15 @@ impl World {
         ensures ended { (result ≡ Ended) ↔ (is_over (slice_get self.old.sessions at) ≡ true) }
         ensures never_idle { result ≢ Idle }
         ensures takes { IsWhole result → TakesTurn at self.old self.new }
-        ensures hears { IsWhole result → is_owed (slice_get self.old.sessions at) ≡ true → HearsReply at self.old self.new }
+        ensures hears { IsWhole result → HearsReplyOwed at self.old self.new }
     {
-        let Some(seat) = self.seats.get(at) else {
+        let Some(session) = self.registry.get(at) else {
             return TurnEnd::Ended;
         };
-        if let Some(number) = seat.untold() {
+        if let Some(number) = session.untold() {
             return self.telling_turn(at, number);
         }
-        if !seat.is_live() {
+        if !session.is_live() {
             return TurnEnd::Ended;
         }
         self.calling_turn(at)
@@ -367,7 +369,7 @@ impl World {
         requires short { All IsShortScript scripts }
         ensures { IfOk result (λ w. w ≡ opened empty_tables empty_tables scripts) }
     {
-        let seats = Seats::fresh(alloc, &scripts)?;
+        let registry = SessionRegistry::fresh(alloc, &scripts)?;
         Ok(World {
             alloc,
             history: History {
@@ -377,9 +379,9 @@ impl World {
                 scripts,
                 entries: List::new(alloc),
             },
-            home: Side::new(alloc),
-            away: Side::new(alloc),
-            seats,
+            home: RunDatabase::new(alloc),
+            away: RunDatabase::new(alloc),
+            registry,
             moment: 0,
             readings: 0,
         })
@@ -396,7 +398,7 @@ impl World {
         ensures ended { (result ≡ Ended) ↔ (has_ended actor self.old ≡ true) }
         ensures idle { (result ≡ Idle) ↔ ((64 ≤ actor) × (any_live self.old ≡ true)) }
         ensures takes { actor < 64 → IsWhole result → TakesTurn actor self.old self.new }
-        ensures hears { actor < 64 → IsWhole result → is_owed (slice_get self.old.sessions actor) ≡ true → HearsReply actor self.old self.new }
+        ensures hears { actor < 64 → IsWhole result → HearsReplyOwed actor self.old self.new }
     {
         if actor < TIMER {
             self.session_turn(actor)
@@ -422,7 +424,7 @@ impl World {
         ensures count { result ≡ length self.now.sessions }
         ensures most { length self.now.sessions ≤ 64 }
     {
-        self.seats.len() as u32
+        self.registry.len() as u32
     }
 
     #[tactic(auto, unfolding(queue_rows::specs::Turns::any_live))]
@@ -430,15 +432,15 @@ impl World {
     pub fn any_live(&self) -> bool
         ensures { result ≡ any_live self.now }
     {
-        self.seats.any_live()
+        self.registry.any_live()
     }
 
     /// Whether the session of that number is to be told the reply to its last call.
     pub fn is_owed(&self, session: u32) -> bool
         ensures { result ≡ is_owed (slice_get self.now.sessions session) }
     {
-        match self.seats.get(session) {
-            Some(seat) => seat.untold().is_some(),
+        match self.registry.get(session) {
+            Some(session) => session.untold().is_some(),
             None => false,
         }
     }

@@ -1,9 +1,6 @@
 //! The program: it makes the words, the input and the output, calls the server, and ends with its status.
 #![tactic(auto)]
 
-ghost use Rattle.std.specs.Prelude.{◌≡◌, IfOk, map};
-ghost use Rattle.aqd.specs.Words.{word_of, words_of};
-
 use aq_base::{ReaderSource, Words, WriterSink};
 use aq_run::serve;
 use std::alloc::{AllocError, Global};
@@ -44,28 +41,8 @@ fn arguments(alloc: Global, rt: &HostRuntime) -> Result<Vec<Vec<u8>>, AllocError
     Ok(all)
 }
 
-/// The word that an argument is: its text, or the empty word where it is none.
-fn word_of(argument: &[u8]) -> &str
-    ensures { result.now ≡ word_of argument.now }
-{
-    match str::from_utf8(argument) {
-        Ok(text) => text,
-        Err(_) => "",
-    }
-}
-
-fn words_of(alloc: Global, arguments: &[Vec<u8>]) -> Result<Words, AllocError>
-    ensures { IfOk result (λ words. words ≡ words_of arguments.now) }
-{
-    let mut words = Words::new(alloc);
-    for argument in arguments {
-        words.push(word_of(argument))?;
-    }
-    Ok(words)
-}
-
 fn words(alloc: Global, rt: &HostRuntime) -> Result<Words, AllocError> {
-    words_of(alloc, &arguments(alloc, rt)?)
+    Words::of_arguments(alloc, &arguments(alloc, rt)?)
 }
 
 fn main(rt: HostRuntime) -> ExitCode {

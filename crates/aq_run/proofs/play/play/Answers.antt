@@ -19,9 +19,6 @@ run-requires-clause-short c = short-begun c.args.scripts c.in_ok-world.world c.i
 serial : (c : goal.After-finish) → IsSerial empty_tables empty_tables c.args.scripts c.finish.result
 serial c = whole-run c.args.scripts c.in_ok-world.world c.run.new.world c.finish.result c.in_ok-world.ensures c.in-Ok.ensures.whole c.in-Ok.ensures.scripts c.finish.ensures.entries c.finish.ensures.begins
 
-pub returns-in-Ok-clause-whole : goal.returns-in-Ok-clause-whole
-returns-in-Ok-clause-whole c = λ _. serial c
-
 pub returns-in-Ok-clause-run : goal.returns-in-Ok-clause-run
 returns-in-Ok-clause-run c = λ _.
     let legal = c.serial_is_legal.ensures empty_tables empty_tables c.args.scripts c.finish.result (serial c) in
@@ -35,9 +32,6 @@ returns-in-Ok-clause-first c =
 
 part : (c : goal.After-finish-in-Err) → IsSerialFront empty_tables empty_tables c.args.scripts c.finish-in-Err.result
 part c = part-run c.args.scripts c.in_ok-world.world c.run.new.world c.finish-in-Err.result c.in_ok-world.ensures c.in-Err.ensures.front c.in-Err.ensures.scripts c.finish-in-Err.ensures.entries c.finish-in-Err.ensures.begins
-
-pub returns-in-Err-clause-front : goal.returns-in-Err-clause-front
-returns-in-Err-clause-front c = λ _. part c
 
 pub returns-in-Err-clause-first : goal.returns-in-Err-clause-first
 returns-in-Err-clause-first c =

@@ -1,4 +1,5 @@
-use Rattle.aq_run.proofs.Going.{by_end, ok_from}
+use Rattle.aq_world.proofs.Results.{ok_from}
+use Rattle.aq_run.proofs.Fronts.{by_end}
 use Rattle.aq_run.proofs.Turning.{from_64, turned_background, kept_scripts, kept_sessions, kept_readings, broken_scripts}
 use Rattle.aq_run.proofs.rounds.background_turn.Goals as goal
 

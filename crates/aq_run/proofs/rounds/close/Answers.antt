@@ -1,4 +1,4 @@
-use Rattle.aq_run.proofs.Going.{err_from}
+use Rattle.aq_world.proofs.Results.{err_from}
 use Rattle.aq_run.proofs.Turning.{broken_closing, scripts_closed}
 use Rattle.aq_run.proofs.rounds.close.Goals as goal
 

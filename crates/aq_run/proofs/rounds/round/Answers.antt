@@ -1,8 +1,8 @@
 use Rattle.std.proofs.Common.{◌+◌, ◌∙◌}
 use Rattle.queue_rows.specs.Serial.{session_turns, round}
-use Rattle.queue_rows.proofs.Fronts.{front_trans, grows-behind_sessions}
-use Rattle.aq_run.proofs.Going.{on_err, ok_from}
-use Rattle.aq_run.proofs.Pacing.{same_course}
+use Rattle.history_laws.proofs.Fronts.{front_trans, grows-behind_sessions}
+use Rattle.aq_world.proofs.Results.{on_err, ok_from}
+use Rattle.aq_run.proofs.Progress.{same_progress}
 use Rattle.aq_run.proofs.Rounding.{front_timer, front_propagator}
 use Rattle.aq_run.proofs.rounds.round.Goals as goal
 
@@ -23,7 +23,7 @@ returns-in_err-background_turn-2-clause-front c =
 pub returns-clause-at : goal.returns-clause-at
 returns-clause-at c =
     ok_from c.telling_turns.result c.telling_turns.ensures.at (λ f k at.
-    f (k + 1) (same_course (k + 1) c.session_turns.new.world c.background_turn-2.new.world
+    f (k + 1) (same_progress (k + 1) c.session_turns.new.world c.background_turn-2.new.world
     (c.in_ok-background_turn-2.ensures.sessions ∙ c.in_ok-background_turn.ensures.sessions)
     (c.in_ok-background_turn-2.ensures.scripts ∙ c.in_ok-background_turn.ensures.scripts)
     (c.in_ok-session_turns.ensures.at k c.requires.told at)))

@@ -1,9 +1,9 @@
 use Rattle.std.proofs.Common.{◌≡◌, ◌≤◌, ◌+◌, ◌-◌, true, false, arith, refl, sym, ap, ◌∙◌, subst}
 use Rattle.queue_rows.specs.Serial.{rounds}
 use Rattle.queue_rows.specs.Turns.{any_live}
-use Rattle.aq_world.specs.Course.{AreAt, longest}
-use Rattle.aq_run.proofs.Going.{on_err, err_from}
-use Rattle.aq_run.proofs.Pacing.{live_within}
+use Rattle.aq_world.specs.Progress.{AreAt, longest}
+use Rattle.aq_world.proofs.Results.{on_err, err_from}
+use Rattle.aq_run.proofs.Progress.{live_within}
 use Rattle.aq_run.proofs.Running.{rounds_none, rounds_next, way_in_round, way_in_closing, longest_few}
 use Rattle.aq_run.proofs.rounds.run.Goals as goal
 

@@ -1,6 +1,6 @@
 use Rattle.std.proofs.Common.{◌≡◌, ◌≤◌, ◌+◌, ◌-◌, ◌*◌}
 use Rattle.queue_rows.specs.Serial.{rounds}
-use Rattle.aq_world.specs.Course.{AreAt, AreTold, longest}
+use Rattle.aq_world.specs.Progress.{AreAt, AreTold, longest}
 use Rattle.aq_run.proofs.rounds.run.Given as goal
 
 abbrev pub invariant-loop-left : goal.invariant-loop-left

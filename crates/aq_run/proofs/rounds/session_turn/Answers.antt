@@ -1,5 +1,6 @@
 use Rattle.std.proofs.Common.{◌<◌, arith}
-use Rattle.aq_run.proofs.Going.{err_from, by_end}
+use Rattle.aq_world.proofs.Results.{err_from}
+use Rattle.aq_run.proofs.Fronts.{by_end}
 use Rattle.aq_run.proofs.Turning.{broken_session, broken_scripts}
 use Rattle.aq_run.proofs.rounds.session_turn.Goals as goal
 

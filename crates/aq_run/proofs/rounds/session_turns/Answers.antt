@@ -1,9 +1,9 @@
 use Rattle.std.proofs.Common.{◌≡◌, ◌<◌, length, rules, arith, ap, ◌∙◌, subst}
 use Rattle.queue_rows.specs.Turns.{session_turn}
-use Rattle.queue_rows.proofs.Fronts.{grows-session_turn}
-use Rattle.aq_world.specs.Course.{AreBetween}
-use Rattle.aq_run.proofs.Going.{on_err}
-use Rattle.aq_run.proofs.Pacing.{between_next, between_end, told_next}
+use Rattle.history_laws.proofs.Fronts.{grows-session_turn}
+use Rattle.aq_world.specs.Progress.{AreBetween}
+use Rattle.aq_world.proofs.Results.{on_err}
+use Rattle.aq_run.proofs.Progress.{between_next, between_end, told_next}
 use Rattle.aq_run.proofs.Rounding.{each_next, each_front}
 use Rattle.aq_run.proofs.Turning.{readings-session_turn}
 use Rattle.aq_run.proofs.rounds.session_turns.Goals as goal

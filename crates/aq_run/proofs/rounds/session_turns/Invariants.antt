@@ -1,7 +1,7 @@
 use Rattle.std.proofs.Common.{◌≡◌, ◌≤◌, ◌+◌, ℕ, length}
 use Rattle.queue_rows.specs.Serial.{each}
 use Rattle.queue_rows.specs.Turns.{session_turn}
-use Rattle.aq_world.specs.Course.{AreAt, AreBetween, AreTold, AreToldFrom}
+use Rattle.aq_world.specs.Progress.{AreAt, AreBetween, AreTold, AreToldFrom}
 use Rattle.aq_run.proofs.rounds.session_turns.Given as goal
 
 abbrev pub invariant-loop-session : goal.invariant-loop-session

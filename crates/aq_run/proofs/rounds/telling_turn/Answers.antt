@@ -2,7 +2,7 @@ use Rattle.std.proofs.Common.{◌≡◌, true, sym, subst, ◌∙◌}
 use Rattle.std.specs.Prelude.{slice_get}
 use Rattle.queue_rows.specs.Order.{IsFront}
 use Rattle.aq_world.specs.Turning.{is_owed}
-use Rattle.aq_run.proofs.Going.{ok_from, err_from}
+use Rattle.aq_world.proofs.Results.{ok_from, err_from}
 use Rattle.aq_run.proofs.Turning.{telling_owed, telling_rests}
 use Rattle.aq_run.proofs.rounds.telling_turn.Goals as goal
 

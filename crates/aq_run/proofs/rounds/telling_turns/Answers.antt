@@ -1,9 +1,9 @@
 use Rattle.std.proofs.Common.{◌≡◌, ◌<◌, length, rules, ap, ◌∙◌, subst}
 use Rattle.queue_rows.specs.Turns.{telling_turn}
-use Rattle.queue_rows.proofs.Fronts.{grows-telling_turn}
-use Rattle.aq_world.specs.Course.{AreToldTo}
-use Rattle.aq_run.proofs.Going.{on_err}
-use Rattle.aq_run.proofs.Pacing.{heard_next, heard_at, heard_all}
+use Rattle.history_laws.proofs.Fronts.{grows-telling_turn}
+use Rattle.aq_world.specs.Progress.{AreToldTo}
+use Rattle.aq_world.proofs.Results.{on_err}
+use Rattle.aq_run.proofs.Progress.{heard_next, heard_at, heard_all}
 use Rattle.aq_run.proofs.Rounding.{each_next, each_front}
 use Rattle.aq_run.proofs.Turning.{readings-telling_turn}
 use Rattle.aq_run.proofs.rounds.telling_turns.Goals as goal
@@ -23,7 +23,7 @@ loop-session-preserved c =
       count = t.keeps.count ∙ c.loop-session.invariant.count;
       readings = ap (λ w. w.readings) turned ∙ readings-telling_turn c.loop-session.session c.loop-session.world ∙ c.loop-session.invariant.readings;
       told = heard_next c.loop-session.session c.loop-session.world c.telling_turn.new.world c.loop-session.invariant.told t;
-      course = λ k at. heard_at k c.loop-session.session c.loop-session.world c.telling_turn.new.world (c.loop-session.invariant.course k at) t;
+      progress = λ k at. heard_at k c.loop-session.session c.loop-session.world c.telling_turn.new.world (c.loop-session.invariant.progress k at) t;
     }
 
 pub returns-clause-told : goal.returns-clause-told

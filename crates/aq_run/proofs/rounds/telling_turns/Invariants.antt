@@ -1,7 +1,7 @@
 use Rattle.std.proofs.Common.{◌≡◌, ℕ, length}
 use Rattle.queue_rows.specs.Serial.{each}
 use Rattle.queue_rows.specs.Turns.{telling_turn}
-use Rattle.aq_world.specs.Course.{AreAt, AreToldTo}
+use Rattle.aq_world.specs.Progress.{AreAt, AreToldTo}
 use Rattle.aq_run.proofs.rounds.telling_turns.Given as goal
 
 abbrev pub invariant-loop-session : goal.invariant-loop-session
@@ -11,5 +11,5 @@ invariant-loop-session l = record {
   count : length l.world.sessions ≡ length l.fn.world.sessions;
   readings : l.world.readings ≡ l.fn.world.readings;
   told : AreToldTo l.session l.world;
-  course : (k : ℕ) → AreAt k l.fn.world → AreAt k l.world;
+  progress : (k : ℕ) → AreAt k l.fn.world → AreAt k l.world;
 }

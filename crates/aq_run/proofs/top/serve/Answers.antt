@@ -7,7 +7,7 @@ use Rattle.aq_run.proofs.top.serve.Goals as goal
 pub returns-then-not-is_serial_run-clause-usage_text :
     goal.returns-then-not-is_serial_run-clause-usage_text
 returns-then-not-is_serial_run-clause-usage_text g c = λ _.
-    subst (λ (text : List ℕ). Tells (g.O.Sink.taken c.args.out.now) (g.O.Sink.taken c.tell.new.out) (g.O.Sink.faults c.args.out.now) (g.O.Sink.faults c.tell.new.out) text)
+    subst (λ (text : List ℕ). Tells g.O.Sink.taken g.O.Sink.faults c.args.out.now c.tell.new.out text)
     c.as_bytes.ensures.value c.tell.ensures
 
 of_all : (left : Option (List ℕ)) (read : List ℕ) (history : History) → IfSome left (λ xs. script read ≡ script xs)

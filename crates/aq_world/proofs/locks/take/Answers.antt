@@ -1,5 +1,5 @@
 use Rattle.std.proofs.Common.{Err, ap, ◌∙◌}
-use Rattle.aq_world.proofs.Taking.{no_fault}
+use Rattle.aq_world.proofs.Marks.{no_fault}
 use Rattle.aq_world.proofs.locks.take.Goals as goal
 
 pub unreachable-requires : goal.unreachable-requires

@@ -2,8 +2,8 @@ use Rattle.std.proofs.Common.{◌≡◌, None, true, sym, ap, ◌∙◌}
 use Rattle.std.specs.Prelude.{slice_get}
 use Rattle.queue_rows.specs.Statements.{next_statement}
 use Rattle.queue_rows.specs.Turns.{own_turn}
-use Rattle.aq_world.specs.Course.{TakesTurn}
-use Rattle.aq_world.proofs.Going.{if_some, of_some}
+use Rattle.aq_world.specs.Progress.{TakesTurn}
+use Rattle.aq_world.proofs.Results.{if_some, of_some}
 use Rattle.aq_world.proofs.Turns.{done_ok, session_own, read_takes, read_sessions}
 use Rattle.aq_world.proofs.world.World.calling_turn.Goals as goal
 

@@ -1,7 +1,7 @@
 use Rattle.std.proofs.Common.{◌≡◌, Some, option_map, sym, ◌∙◌}
 use Rattle.std.specs.Prelude.{slice_get}
 use Rattle.queue_rows.specs.Turns.{told}
-use Rattle.aq_world.proofs.Going.{if_some, of_some}
+use Rattle.aq_world.proofs.Results.{if_some, of_some}
 use Rattle.aq_world.proofs.Turns.{done_ok, session_told, told_takes, told_heard}
 use Rattle.aq_world.proofs.world.World.telling_turn.Goals as goal
 
