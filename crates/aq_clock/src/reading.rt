@@ -1,7 +1,7 @@
 // The contract of a clock.
-ghost use Rattle.std.specs.Prelude.{◌≡◌, ◌<◌, ◌^◌, List, ℕ, Option, Some, [], ◌∷◌, ◌++◌, length, IsSome};
+ghost use Rattle.std.specs.Prelude.{◌≡◌, List, ℕ, Option, Some, length};
 ghost use Rattle.std.specs.Option.{ForSome};
-ghost use Rattle.aq_clock.specs.Clock.{first_readings};
+ghost use Rattle.aq_clock.specs.Clock.{first_readings, HasReading, TellsOn};
 
 /// A source of readings, in seconds. A reading may be lower than an earlier one.
 pub trait Clock {
@@ -14,12 +14,10 @@ pub trait Clock {
     /// A reading. It cannot fail.
     fn now(&mut self) -> u64
         // The readings are those from before, and this one.
-        ensures reading { ForSome (given self.new)
-            (λ readings. (before : List ℕ) × (given self.old ≡ Some before) × (readings ≡ before ++ result ∷ [])) }
+        ensures reading { ForSome (given self.new) (HasReading (given self.old) result) }
 
         // A clock that tells its readings goes on to, for 2^63 readings at least.
-        ensures tells { ForSome (given self.old)
-            (λ before. length before < 2 ^ 63 → IsSome (given self.new)) }
+        ensures tells { ForSome (given self.old) (TellsOn (given self.new)) }
         ensures planned { plan self.new ≡ plan self.old };
 
     /// The readings given are the first of the plan.
