@@ -1,3 +1,4 @@
+pub mod Laws
 pub mod Lexing
 pub mod Outline
 pub mod PrintReadable

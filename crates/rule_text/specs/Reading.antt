@@ -1,12 +1,14 @@
 -- What reading a text gives: a condition, or what is left where no condition goes on.
-use Rattle.std.specs.Prelude.{◌≡◌, ◌≢◌, ◌⊎◌, ℕ, List, [], Some, None, Result, Ok, Err}
+use Rattle.std.specs.Prelude.{◌≡◌, ◌≢◌, ◌⊎◌, ℕ, List, [], Some, None, Result, Ok, Err, IsTrue}
 use Rattle.rule_conditions.specs.Tokens as grammar
 use Rattle.rule_conditions.specs.Grammar.{IsTextOf, EndsAt}
 use Rattle.rule_conditions.specs.Reading.{condition_of}
 use Rattle.rule_conditions.specs.declared.condition.Cond.{Cond}
 use Rattle.rule_conditions.specs.Lexing.{behind_space}
+use Rattle.rule_conditions.specs.Print.{print}
 use Rattle.rule_text.specs.Lexing.{token_at}
 use Rattle.rule_text.specs.Outline.{step, finish}
+use Rattle.rule_text.specs.PrintReadable.{is_readable}
 use Rattle.rule_text.specs.declared.outline.Outline.{Outline}
 use Rattle.rule_text.specs.declared.fault.ReadFault.{ReadFault}
 use Rattle.rule_text.specs.declared.fault.ReadFault.TheVariants as faults
@@ -30,6 +32,10 @@ StopsWith stops.Memory Gives = Unit {0}
 -- the condition is read, or memory runs out
 abbrev pub IsReadAs : Result Cond ReadFault → Cond → Type 0
 IsReadAs result condition = (result ≡ Ok condition) ⊎ (result ≡ Err faults.Memory)
+
+-- the text, where it is the print of a readable condition, is read as that
+abbrev pub ReadsPrints : List ℕ → Result Cond ReadFault → Type 0
+ReadsPrints text result = (condition : Cond) → IsTrue (is_readable condition) → text ≡ print condition → IsReadAs result condition
 
 -- reading it, as it is computed, stops there
 abbrev pub TellsStop : ReadFault → List ℕ → Type 0

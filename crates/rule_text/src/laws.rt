@@ -1,8 +1,9 @@
 // Laws over the definitions, each a function without a body.
-ghost use Rattle.std.specs.Prelude.{◌≡◌, List, ℕ, IsTrue};
+ghost use Rattle.std.specs.Prelude.{List, ℕ, IsTrue};
 ghost use Rattle.rule_conditions.specs.declared.condition.Cond.{Cond};
 ghost use Rattle.rule_conditions.specs.Grammar.{IsTextOf};
 ghost use Rattle.rule_conditions.specs.Print.{print};
+ghost use Rattle.rule_text.specs.Laws.{HasOneCondition, PrintIsText};
 ghost use Rattle.rule_text.specs.PrintReadable.{is_readable};
 
 /// The print of a readable condition is a text of it in the grammar.
@@ -19,12 +20,10 @@ pub fn text_is_readable()
 
 /// Where a condition has a text in the grammar, its print is one too.
 pub fn print_is_text()
-    ensures { (text : List ℕ) (condition : Cond)
-        → IsTextOf text condition → IsTextOf (print condition) condition }
+    ensures { PrintIsText }
 {}
 
 /// A text is that of one condition at most.
 pub fn text_has_one_condition()
-    ensures { (text : List ℕ) (condition other : Cond)
-        → IsTextOf text condition → IsTextOf text other → condition ≡ other }
+    ensures { HasOneCondition }
 {}

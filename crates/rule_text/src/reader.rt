@@ -1,13 +1,11 @@
 // Reads conditions from texts.
-ghost use Rattle.std.specs.Prelude.{◌≡◌, [], Ok, IfOk, IfErr, IsTrue};
+ghost use Rattle.std.specs.Prelude.{◌≡◌, [], Ok, IfOk, IfErr};
 ghost use Rattle.std.specs.Str.{IsUtf8};
 ghost use Rattle.rule_text.specs.Outline.{start};
 ghost use Rattle.rule_conditions.specs.Grammar.{IsTextOf};
-ghost use Rattle.rule_conditions.specs.Print.{print};
 ghost use Rattle.rule_conditions.specs.Reading.{condition_of};
 ghost use Rattle.rule_conditions.specs.declared.condition.Cond.{Cond};
-ghost use Rattle.rule_text.specs.PrintReadable.{is_readable};
-ghost use Rattle.rule_text.specs.Reading.{Reads, StopsWith, FaultTells, TellsStop, IsReadAs};
+ghost use Rattle.rule_text.specs.Reading.{Reads, StopsWith, FaultTells, TellsStop, IsReadAs, ReadsPrints};
 ghost use Rattle.rule_conditions.specs.Lexing.{behind_space};
 
 use crate::fault::ReadFault;
@@ -67,8 +65,7 @@ fn condition_at<'a>(alloc: Global, text: &'a [u8]) -> Result<Cond, Stop<'a>>
 pub fn read(alloc: Global, text: &str) -> Result<Cond, ReadFault>
     ensures ok { IfOk result (λ condition. IsTextOf text.now condition) }
     ensures complete { (condition : Cond) → IsTextOf text.now condition → IsReadAs result condition }
-    ensures printed { (condition : Cond) → IsTrue (is_readable condition)
-        → text.now ≡ print condition → IsReadAs result condition }
+    ensures printed { ReadsPrints text.now result }
     ensures bad { IfErr result (λ e. FaultTells e text.now) }
     ensures computed { IfOk result (λ condition. condition_of text.now ≡ Ok condition) }
     ensures stopped { IfErr result (λ e. TellsStop e text.now) }
