@@ -7,12 +7,9 @@ use Rattle.std.specs.Ordering.{is_lt, is_eq, ordering_reverse}
 use Rattle.std.specs.declared.cmp.Ordering.{Ordering}
 use Rattle.std.specs.declared.cmp.Ordering.TheVariants.{Less, Equal, Greater}
 use Rattle.std.proofs.lemmas.List.Elements.{All-head, All-tail}
+use Rattle.row_tree.specs.Bounds.{Falls}
 use Rattle.row_tree.specs.Order.{IsBeforeAll, IsRising, put_in_order, without_first}
 use Rattle.row_tree.specs.Split.{NonePass, IsSplit}
-
--- a bound's law
-abbrev pub Falls : {T : Type 0} → (T → T → Ordering) → (T → Ordering) → Type 0
-Falls {T} order standing = (x y : T) → order x y ≡ Less → standing y ≢ Greater → standing x ≡ Less
 
 fails_after : (o p : Ordering) → (p ≢ Greater → o ≡ Less) → is_lt o ≡ false → p ≡ Greater
 fails_after o Less falls late = let less = falls (λ e. cc e) in cc

@@ -6,7 +6,8 @@ use Rattle.std.specs.Ordering.{is_lt, is_eq}
 use Rattle.std.specs.declared.cmp.Ordering.{Ordering}
 use Rattle.row_tree.specs.Order.{IsRising, without_first}
 use Rattle.row_tree.proofs.Places.{found, taken_there, within_there}
-use Rattle.row_tree.proofs.Rising.{Falls, Taken, taken, is_there}
+use Rattle.row_tree.specs.Bounds.{Falls}
+use Rattle.row_tree.proofs.Rising.{Taken, taken, is_there}
 
 -- the row and the rows without it
 pub record Takes {T : Type 0} (standing : T → Ordering) (xs : List T) (at : ℕ) : Type 0 where

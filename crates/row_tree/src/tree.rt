@@ -1,11 +1,13 @@
 // A tree of rows, which contracts see as the list of its rows.
-ghost use Rattle.std.specs.Prelude.{◌≡◌, ◌+◌, ◌-◌, ◌<◌, ◌≤◌, [], ◌∷◌, ◌++◌, length, insert, remove, slice_get, option_copied, Some, IsSome, IfSome, IfNone};
+ghost use Rattle.std.specs.Prelude.{◌≡◌, ◌↔◌, IsTrue, ◌+◌, ◌-◌, ◌<◌, ◌≤◌, [], ◌∷◌, ◌++◌, length, insert, remove, slice_get, option_copied, Some, IsSome, IfSome, IfNone};
 ghost use Rattle.std.specs.List.{prefix_len};
 ghost use Rattle.std.specs.Option.{option_to_list};
-ghost use Rattle.std.specs.Ordering.{is_lt};
+ghost use Rattle.std.specs.Iterator.{YieldsFirstRef, item_count};
+ghost use Rattle.row_tree.specs.Bounds.{is_before};
+ghost use Rattle.row_tree.specs.Edits.{edit_at};
 ghost use Rattle.row_tree.specs.Split.{IsSplit};
 
-use crate::{Bound, InOrder};
+use crate::{Bound, Edit, InOrder};
 use std::alloc::{AllocError, Global};
 use std::marker::Model;
 use std::mem;
@@ -54,6 +56,23 @@ pub struct Spare<T> {
     fork: Box<Fork<T>>,
 }
 
+/// The rows of a tree from the first to the last, each lent.
+#[derive(Drop)]
+pub struct Iter<'a, T> {
+    tree: &'a Tree<T>,
+    at: usize,
+}
+
+impl<'a, T> Model for Iter<'a, T> {
+    ghost use Rattle.std.specs.Prelude.{List as Sequence, ◌≤◌, drop, length};
+
+    ghost Value = { Sequence T };
+
+    ghost view = { λ i. drop i.at i.tree.now };
+
+    ghost invariant = { λ i. i.at ≤ length i.tree.now };
+}
+
 #[derive(Drop)]
 struct Opened<T> {
     left: Tree<T>,
@@ -62,14 +81,14 @@ struct Opened<T> {
 }
 
 impl<T> Tree<T> {
-    /// No rows.
+    /// No rows. It takes no memory.
     pub fn new() -> Tree<T>
         ensures { result ≡ [] }
     {
         Tree { root: None }
     }
 
-    /// How many rows there are.
+    /// How many rows there are. It takes no memory.
     pub fn len(&self) -> usize
         ensures { result ≡ length self.now }
     {
@@ -80,15 +99,11 @@ impl<T> Tree<T> {
     }
 }
 
-/// What is left where a row was taken out.
 #[derive(Drop)]
-pub struct Removed<T> {
-    /// The other rows.
-    pub rest: Tree<T>,
-    /// The row.
-    pub row: T,
-    /// Its place.
-    pub spare: Spare<T>,
+struct Removed<T> {
+    rest: Tree<T>,
+    row: T,
+    spare: Spare<T>,
 }
 
 #[derive(Drop)]
@@ -98,6 +113,13 @@ struct First<T> {
 }
 
 impl<T> Tree<T> {
+    /// The rows from the first to the last. Each is found by its index, in about as many steps as their number has digits.
+    pub fn iter(&self) -> Iter<'_, T>
+        ensures { result ≡ self.now }
+    {
+        Iter { tree: self, at: 0 }
+    }
+
     /// The row at an index that counts from 0, or None past the end. It takes no memory.
     pub fn get(&self, at: usize) -> Option<&T>
         ensures { option_copied result ≡ slice_get self.now at }
@@ -117,11 +139,51 @@ impl<T> Tree<T> {
     }
 }
 
+impl<T> Tree<T> {
+    /// Whether there are no rows. It takes no memory.
+    pub fn is_empty(&self) -> bool
+        ensures { IsTrue result ↔ (self.now ≡ []) }
+    {
+        self.len() == 0
+    }
+}
+
+impl<'a, T> IntoIterator for &'a Tree<T> {
+    type Item = &'a T;
+
+    type IntoIter = Iter<'a, T>;
+
+    ghost into_iter_gives = { λ t i. i ≡ t.now };
+
+    fn into_iter(self) -> Iter<'a, T> {
+        self.iter()
+    }
+}
+
+impl<'a, T> Iterator for Iter<'a, T> {
+    type Item = &'a T;
+
+    ghost next_gives = { YieldsFirstRef (λ i. i) };
+
+    ghost remaining = { item_count (λ i. i) };
+
+    fn next(&mut self) -> Option<&'a T> {
+        let _most = self.tree.len();
+        match self.tree.get(self.at) {
+            None => None,
+            Some(row) => {
+                self.at += 1;
+                Some(row)
+            }
+        }
+    }
+}
+
 impl<T: InOrder> Tree<T> {
     /// How many rows stand before the first one that does not stand before the bound. It takes no memory.
     pub fn rank<B: Bound<T>>(&self, bound: &B) -> usize
-        requires { IsSplit (λ row. is_lt (B.standing bound.now row)) self.now }
-        ensures { result ≡ prefix_len (λ row. is_lt (B.standing bound.now row)) self.now }
+        requires { IsSplit (is_before (B.standing bound.now)) self.now }
+        ensures { result ≡ prefix_len (is_before (B.standing bound.now)) self.now }
     {
         let _most = self.len();
         let Some(fork) = &self.root else {
@@ -155,8 +217,47 @@ impl<T: Drop> Tree<T> {
         }
     }
 
-    /// Puts a row before the one at an index, or at the end. It takes no memory.
-    pub fn insert(self, at: usize, row: T, spare: Spare<T>) -> Tree<T>
+    /// Puts a row before the one at an index that counts from 0, or at the end. It takes no memory.
+    pub fn insert(&mut self, at: usize, row: T, spare: Spare<T>)
+        requires within { at ≤ length self.old }
+        requires fits { length self.old < usize.MAX }
+        ensures { self.new ≡ insert self.old at row }
+    {
+        let tree = mem::replace(self, Tree::new());
+        *self = tree.inserted(at, row, spare);
+    }
+
+    /// Puts a row at the end. It takes no memory.
+    pub fn push(&mut self, row: T, spare: Spare<T>)
+        requires { length self.old < usize.MAX }
+        ensures { self.new ≡ self.old ++ row ∷ [] }
+    {
+        let tree = mem::replace(self, Tree::new());
+        *self = tree.pushed(row, spare);
+    }
+
+    /// Takes the row at an index that counts from 0 out, with its place. It takes no memory.
+    pub fn remove(&mut self, at: usize) -> (T, Spare<T>)
+        requires { at < length self.old }
+        ensures row { slice_get self.old at ≡ Some result.0 }
+        ensures rest { self.new ≡ remove self.old at }
+    {
+        let tree = mem::replace(self, Tree::new());
+        let Removed { rest, row, spare } = tree.removed(at);
+        *self = rest;
+        (row, spare)
+    }
+
+    /// Changes the row at an index that counts from 0. It takes no memory.
+    pub fn edit<E: Edit<T>>(&mut self, at: usize, edit: E)
+        requires { at < length self.old }
+        ensures { self.new ≡ edit_at self.old at (E.edited edit) }
+    {
+        let tree = mem::replace(self, Tree::new());
+        *self = tree.edited(at, edit);
+    }
+
+    fn inserted(self, at: usize, row: T, spare: Spare<T>) -> Tree<T>
         requires within { at ≤ length self }
         requires fits { length self < usize.MAX }
         ensures { result ≡ insert self at row }
@@ -166,16 +267,52 @@ impl<T: Drop> Tree<T> {
         };
         let before = left.len();
         if at <= before {
-            let left = left.insert(at, row, spare);
+            let left = left.inserted(at, row, spare);
             join(fork, left, right)
         } else {
-            let right = right.insert(at - before - 1, row, spare);
+            let right = right.inserted(at - before - 1, row, spare);
             join(fork, left, right)
         }
     }
 
-    /// Takes the row at an index out. It takes no memory.
-    pub fn remove(self, at: usize) -> Removed<T>
+    fn pushed(self, row: T, spare: Spare<T>) -> Tree<T>
+        requires { length self < usize.MAX }
+        ensures { result ≡ self ++ row ∷ [] }
+    {
+        let Some(Opened { left, fork, right }) = self.open() else {
+            return hang(filled(spare, row), Tree::new(), Tree::new());
+        };
+        join(fork, left, right.pushed(row, spare))
+    }
+
+    fn edited<E: Edit<T>>(self, at: usize, edit: E) -> Tree<T>
+        requires { at < length self }
+        ensures { result ≡ edit_at self at (E.edited edit) }
+    {
+        let Some(
+            Opened {
+                left,
+                mut fork,
+                right,
+            },
+        ) = self.open()
+        else {
+            unreachable!()
+        };
+        let before = left.len();
+        if at < before {
+            hang(fork, left.edited(at, edit), right)
+        } else if at > before {
+            hang(fork, left, right.edited(at - before - 1, edit))
+        } else {
+            let Some(row) = fork.row.take() else {
+                unreachable!()
+            };
+            hang(filled(Spare { fork }, edit.edit(row)), left, right)
+        }
+    }
+
+    fn removed(self, at: usize) -> Removed<T>
         requires { at < length self }
         ensures row { slice_get self at ≡ Some result.row }
         ensures rest { result.rest ≡ remove self at }
@@ -192,14 +329,14 @@ impl<T: Drop> Tree<T> {
         };
         let before = left.len();
         if at < before {
-            let Removed { rest, row, spare } = left.remove(at);
+            let Removed { rest, row, spare } = left.removed(at);
             Removed {
                 rest: join(fork, rest, right),
                 row,
                 spare,
             }
         } else if at > before {
-            let Removed { rest, row, spare } = right.remove(at - before - 1);
+            let Removed { rest, row, spare } = right.removed(at - before - 1);
             Removed {
                 rest: join(fork, left, rest),
                 row,
@@ -343,7 +480,7 @@ fn lean_right<T: Drop>(fork: Box<Fork<T>>, left: Tree<T>, right: Tree<T>) -> Tre
 }
 
 impl<T: Drop> Spare<T> {
-    /// A place, if there is memory for it.
+    /// A place, if there is memory for it. This is the one call that takes memory.
     pub fn new(alloc: Global) -> Result<Spare<T>, AllocError> {
         Ok(Spare {
             fork: Box::new(

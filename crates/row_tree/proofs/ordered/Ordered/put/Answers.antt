@@ -13,13 +13,12 @@ rank-at-requires g c =
 pub insert-requires-clause-within : goal.insert-requires-clause-within
 insert-requires-clause-within g c =
     let most = prefix_len-le-length (λ x. is_lt (g.T.InOrder.order x c.args.row)) c.self.inside.tree in
-    let same = ap length c.replace-tree.ensures.value in
     omega (arith, c.rank-at.ensures)
 
 pub returns-clause-rows : goal.returns-clause-rows
 returns-clause-rows g c =
     let e = put_there g.T.InOrder.order c.args.row c.self.inside.tree in
-    cc (e, c.insert.ensures, c.rank-at.ensures, c.replace-tree.ensures.value, c.self.view_is)
+    cc (e, c.insert.ensures, c.rank-at.ensures, c.self.view_is)
 
 pub returns-clause-rising : goal.returns-clause-rising
 returns-clause-rising g c =
@@ -33,7 +32,6 @@ invariant_of-self g c = returns-clause-rising g c
 pub returns-clause-len : goal.returns-clause-len
 returns-clause-len g c =
     let most = prefix_len-le-length (λ x. is_lt (g.T.InOrder.order x c.args.row)) c.self.inside.tree in
-    let same = ap length c.replace-tree.ensures.value in
-    let within : c.rank-at.result ≤ length c.replace-tree.result = omega (arith, c.rank-at.ensures) in
-    let long = length-insert c.replace-tree.result c.rank-at.result c.args.row within in
+    let within : c.rank-at.result ≤ length c.self.inside.tree = omega (arith, c.rank-at.ensures) in
+    let long = length-insert c.self.inside.tree c.rank-at.result c.args.row within in
     omega (arith, ap length c.insert.ensures, ap length c.self.view_is)

@@ -19,20 +19,20 @@ returns-then-not-stands_at-clause-rest g c =
     let t = leaves (g.B.Bound.standing c.args.bound.now) (g.met.B.Bound.falls c.args.bound.now) c.self.inside.tree c.self.invariant c.rank-at.result c.rank-at.ensures (sym c.stands_at.ensures ∙ c.if-not-stands_at.true) in
     cc (t.rest, c.self.view_is)
 
-pub remove-rest-requires : goal.remove-rest-requires
-remove-rest-requires g c =
+pub remove-requires : goal.remove-requires
+remove-requires g c =
     let t = takes (g.B.Bound.standing c.args.bound.now) (g.met.B.Bound.falls c.args.bound.now) c.self.inside.tree c.self.invariant c.rank-at.result c.rank-at.ensures (sym c.stands_at.ensures ∙ c.if-not-stands_at.false) in
-    omega (arith, t.within, ap length c.replace-tree.ensures.value)
+    omega (arith, t.within)
 
 pub returns-clause-row : goal.returns-clause-row
 returns-clause-row g c =
     let t = takes (g.B.Bound.standing c.args.bound.now) (g.met.B.Bound.falls c.args.bound.now) c.self.inside.tree c.self.invariant c.rank-at.result c.rank-at.ensures (sym c.stands_at.ensures ∙ c.if-not-stands_at.false) in
-    cc (t.row, c.remove-rest.ensures.row, c.replace-tree.ensures.value, c.self.view_is)
+    cc (t.row, c.remove.ensures.row, c.self.view_is)
 
 pub returns-clause-rest : goal.returns-clause-rest
 returns-clause-rest g c =
     let t = takes (g.B.Bound.standing c.args.bound.now) (g.met.B.Bound.falls c.args.bound.now) c.self.inside.tree c.self.invariant c.rank-at.result c.rank-at.ensures (sym c.stands_at.ensures ∙ c.if-not-stands_at.false) in
-    cc (t.rest, c.remove-rest.ensures.rest, c.replace-tree.ensures.value, c.self.view_is)
+    cc (t.rest, c.remove.ensures.rest, c.self.view_is)
 
 pub returns-clause-rising : goal.returns-clause-rising
 returns-clause-rising g c =
@@ -46,7 +46,6 @@ invariant_of-self g c = returns-clause-rising g c
 pub returns-clause-len : goal.returns-clause-len
 returns-clause-len g c =
     let t = takes (g.B.Bound.standing c.args.bound.now) (g.met.B.Bound.falls c.args.bound.now) c.self.inside.tree c.self.invariant c.rank-at.result c.rank-at.ensures (sym c.stands_at.ensures ∙ c.if-not-stands_at.false) in
-    let same = ap length (c.replace-tree.ensures.value) in
-    let n : c.rank-at.result < length c.replace-tree.result = omega (arith, t.within) in
-    let long = length-remove c.replace-tree.result c.rank-at.result n in
-    omega (arith, ap length c.remove-rest.ensures.rest, ap length c.self.view_is)
+    let n : c.rank-at.result < length c.self.inside.tree = omega (arith, t.within) in
+    let long = length-remove c.self.inside.tree c.rank-at.result n in
+    omega (arith, ap length c.remove.ensures.rest, ap length c.self.view_is)

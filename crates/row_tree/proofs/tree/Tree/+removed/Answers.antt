@@ -1,13 +1,13 @@
 use Rattle.std.proofs.Common.{◌≡◌, ◌<◌, Some, length, arith}
 use Rattle.row_tree.proofs.Sides.{remove_right, remove_root, get_root}
-use Rattle.row_tree.proofs.tree.Tree.+remove.Goals as goal
+use Rattle.row_tree.proofs.tree.Tree.+removed.Goals as goal
 
 pub returns-then-at-before-2-clause-rest : goal.returns-then-at-before-2-clause-rest
 returns-then-at-before-2-clause-rest g t c =
     let o = c.in-Some.field-0 in
     let past : length o.left < c.args.at = omega (arith, c.len-before.ensures) in
     let e = remove_right _ _ _ _ _ c.in-Some.ensures.row c.in-Some.ensures.some past in
-    cc (e, c.remove-rest-then-at-before-2.ensures.rest, c.join-then-at-before-2.ensures, c.len-before.ensures)
+    cc (e, c.removed-rest-then-at-before-2.ensures.rest, c.join-then-at-before-2.ensures, c.len-before.ensures)
 
 pub returns-in-Some-take-clause-row : goal.returns-in-Some-take-clause-row
 returns-in-Some-take-clause-row g t c =
