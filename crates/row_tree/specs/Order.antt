@@ -1,9 +1,11 @@
 -- Rows in an order.
 use Rattle.std.specs.Prelude.{◌≡◌, ◌≢◌, Bool, List, [], ◌∷◌, cond, refl}
-use Rattle.std.proofs.Common.{sym, ap, ◌∙◌}
-use Rattle.std.proofs.lemmas.Cmp.{alike_right}
+use Rattle.std.proofs.Common.{sym, ap, ◌∙◌, arith}
+use Rattle.std.proofs.lemmas.Cmp.{alike_right, tied_itself}
+use Rattle.std.proofs.lemmas.List.Elements.{All-cons}
 use Rattle.std.specs.Cmp.{IsTotalOrder}
-use Rattle.std.specs.Ordering.{is_lt}
+use Rattle.std.specs.List.{All}
+use Rattle.std.specs.Ordering.{is_lt, ordering_reverse}
 use Rattle.std.specs.declared.cmp.Ordering.{Ordering}
 use Rattle.std.specs.declared.cmp.Ordering.TheVariants.{Less, Equal, Greater}
 
@@ -50,3 +52,20 @@ not_past_row o not_past e = not_past (ap past_row e)
 
 pub less_by_past : {T : Type 0} {order : T → T → Ordering} → IsTotalOrder order → (x y z : T) → order x y ≡ Less → past_row (order y z) ≢ Greater → past_row (order x z) ≡ Less
 less_by_past {T} {order} total x y z less not_past = ap past_row (less_by total x y z less (not_past_row (order y z) not_past))
+
+not_less : (o r : Ordering) → o ≡ Less → r ≡ ordering_reverse o → r ≢ Less
+not_less Less r less back front = cc (back, front)
+not_less Equal r less back front = cc less
+not_less Greater r less back front = cc less
+
+none_less : {T : Type 0} {order : T → T → Ordering} → IsTotalOrder order → (x : T) (xs : List T) → IsBeforeAll order x xs → All (λ y. order y x ≢ Less) xs
+none_less total x [] before = λ k d below. absurd (omega arith)
+none_less {T} {order} total x (y ∷ ys) before =
+    All-cons (λ z. order z x ≢ Less) y ys (not_less (order x y) (order y x) before.0 (total.antisymm y x)) (none_less total x ys before.1)
+
+-- the first of rows in their order is the least of them
+pub first_is_least : {T : Type 0} {order : T → T → Ordering} → IsTotalOrder order → (x : T) (xs : List T) → IsRising order (x ∷ xs)
+    → All (λ y. order y x ≢ Less) (x ∷ xs)
+first_is_least {T} {order} total x xs rising =
+    let own : order x x ≢ Less = λ less. let tied = tied_itself total x in cc (less, tied) in
+    All-cons (λ y. order y x ≢ Less) x xs own (none_less total x xs rising.0)

@@ -1,13 +1,12 @@
 // The index of the slots that are ready.
-ghost use Rattle.std.specs.Prelude.{◌≡◌, ◌≢◌, ◌+◌, ◌<◌, ◌≤◌, ℕ, ℤ, List as Sequence, Option, [], Some, if◌then◌else◌, filter, length, not, slice_get, OnOk, IfSome, IfNone, option_copied};
+ghost use Rattle.std.specs.Prelude.{◌≡◌, ◌≢◌, ◌+◌, ◌<◌, ◌≤◌, ℕ, [], filter, length, OnOk, IfSome, IfNone, option_copied};
 ghost use Rattle.std.specs.List.{All, find};
 ghost use Rattle.std.specs.Option.{option_map, option_to_list};
-ghost use Rattle.std.specs.Ordering.{is_eq};
-ghost use Rattle.place_keys.specs.Place.{place_cmp};
 ghost use Rattle.std.specs.declared.cmp.Ordering.TheVariants.{Equal};
-ghost use Rattle.row_tree.specs.Order.{IsRising, put_in_order};
 ghost use Rattle.sort_index.specs.Fitting.{AllFit};
-ghost use Rattle.sort_index.specs.Ready.{ready_cmp, group_cmp, key, is_of, rows_of, is_past, slot_of, with_rows};
+ghost use Rattle.sort_index.specs.Ready.{AreRising, EditsRows, HasNames, IsFree};
+ghost use Rattle.sort_index.specs.Ready.{first_slot, first_slot_past, group_cmp, is_past, rows_of, slot_of};
+ghost use Rattle.sort_index.specs.Ready.{with_row, with_rows, without_group, without_place};
 
 use crate::bounds::{AtGroup, AtPlace, PastPlace};
 use crate::{Group, Ready, Steps};
@@ -29,15 +28,14 @@ pub struct ReadyIndex {
 }
 
 impl Model for ReadyIndex {
-    ghost use Rattle.std.specs.Prelude.{◌+◌, ◌≤◌, ◌<◌, ◌^◌, length};
     ghost use Rattle.sort_index.specs.Ready.{ReadyRows};
-    ghost use Rattle.sort_index.specs.Fitting.{AllFit};
+    ghost use Rattle.sort_index.specs.Fitting.{IsBounded};
 
     ghost Value = { ReadyRows };
 
     ghost view = { λ i. record { groups = i.groups; spare = i.stock } };
 
-    ghost invariant = { λ i. (i.stock ≤ i.group_stock) × (length i.groups + i.group_stock < 2 ^ 64) × (i.puts + i.stock < 2 ^ 64) × AllFit i.puts i.groups };
+    ghost invariant = { λ i. IsBounded i.groups i.group_stock i.stock i.puts };
 }
 
 impl ReadyIndex {
@@ -72,8 +70,8 @@ impl ReadyIndex {
     /// Puts a slot in at a place where the queue and consumer have none. It takes no memory.
     pub fn put(&mut self, queue: Name, consumer: Option<Name>, place: Place, id: u64, slot: u32)
         requires room { 0 < self.old.spare }
-        requires free { All (λ row. place_cmp row.place place ≢ Equal) (rows_of queue consumer self.old.groups) }
-        ensures rows { (q : Sequence ℕ) (c : Option (Sequence ℕ)) → rows_of q c self.new.groups ≡ (if is_of q c (key queue consumer) then put_in_order ready_cmp (record { place = place; id = id; slot = slot }) (rows_of queue consumer self.old.groups) else rows_of q c self.old.groups) }
+        requires free { IsFree place (rows_of queue consumer self.old.groups) }
+        ensures rows { EditsRows queue consumer (with_row place id slot) self.old.groups self.new.groups }
         ensures room { self.old.spare ≡ self.new.spare + 1 }
     {
         let (mut group, spare) = take_group(
@@ -89,7 +87,8 @@ impl ReadyIndex {
 
     /// Takes the slot at a place out, where the queue and consumer have one there. It takes no memory.
     pub fn take_out(&mut self, queue: &Name, consumer: Option<&Name>, place: &Place)
-        ensures rows { (q : Sequence ℕ) (c : Option (Sequence ℕ)) → rows_of q c self.new.groups ≡ (if is_of q c (key queue.now (option_copied consumer.entry)) then filter (λ row. not (is_eq (place_cmp row.place place.now))) (rows_of queue.now (option_copied consumer.entry) self.old.groups) else rows_of q c self.old.groups) }
+        ensures rows { EditsRows queue.now (option_copied consumer.entry) (without_place place.now)
+            self.old.groups self.new.groups }
         ensures room { self.new.spare ≡ self.old.spare }
     {
         take_row(&mut self.groups, queue, consumer, place);
@@ -97,8 +96,9 @@ impl ReadyIndex {
 
     /// The slot at the least place of the queue and consumer, or None where they have none. It takes no memory.
     pub fn first(&self, queue: &Name, consumer: Option<&Name>) -> Option<(u64, u32)>
-        ensures first { result ≡ option_map slot_of (slice_get (rows_of queue.now (option_copied consumer.entry) self.now.groups) 0) }
-        ensures rising { IsRising ready_cmp (rows_of queue.now (option_copied consumer.entry) self.now.groups) }
+        ensures first { result ≡ first_slot
+            (rows_of queue.now (option_copied consumer.entry) self.now.groups) }
+        ensures rising { AreRising (rows_of queue.now (option_copied consumer.entry) self.now.groups) }
     {
         let group = self.groups.find_at(&AtGroup { queue, consumer })?;
         slot_of(group.rows.get(0))
@@ -112,8 +112,9 @@ impl ReadyIndex {
         after: Option<&Place>,
         steps: &mut Steps<L>,
     ) -> Option<(u64, u32)>
-        ensures first { result ≡ option_map slot_of (find (is_past (option_copied after.entry)) (rows_of queue.now (option_copied consumer.entry) self.now.groups)) }
-        ensures rising { IsRising ready_cmp (rows_of queue.now (option_copied consumer.entry) self.now.groups) }
+        ensures first { result ≡ first_slot_past (option_copied after.entry)
+            (rows_of queue.now (option_copied consumer.entry) self.now.groups) }
+        ensures rising { AreRising (rows_of queue.now (option_copied consumer.entry) self.now.groups) }
         ensures steps { steps.new ≡ steps.old + length (option_to_list result) }
     {
         let group = self.groups.find_at(&AtGroup { queue, consumer })?;
@@ -126,7 +127,7 @@ impl ReadyIndex {
 // The row at the least place past a place, where one is given.
 fn first_past<'a>(rows: &'a Ordered<Ready>, after: Option<&Place>) -> Option<&'a Ready>
     ensures first { option_copied result ≡ find (is_past (option_copied after.entry)) rows.now }
-    ensures rising { IsRising ready_cmp rows.now }
+    ensures rising { AreRising rows.now }
 {
     match after {
         None => rows.get(0),
@@ -149,9 +150,9 @@ fn take_group(
     consumer: Option<Name>,
 ) -> (Group, Spare<Group>)
     requires { 0 < stock.old }
-    ensures names { group_cmp result.0 (key queue consumer) ≡ Equal }
+    ensures names { HasNames queue consumer result.0 }
     ensures rows { result.0.rows ≡ rows_of queue consumer groups.old }
-    ensures rest { groups.new ≡ filter (λ group. not (is_of queue consumer group)) groups.old }
+    ensures rest { groups.new ≡ without_group queue consumer groups.old }
     ensures room { length groups.new + 1 + stock.new ≤ length groups.old + stock.old }
     ensures kept { stock.old ≤ stock.new + 1 }
 {
@@ -174,10 +175,11 @@ fn take_named(
     queue: &Name,
     consumer: Option<&Name>,
 ) -> Option<(Group, Spare<Group>)>
-    ensures names { IfSome result (λ taken. group_cmp taken.0 (key queue.now (option_copied consumer.entry)) ≡ Equal) }
-    ensures rows { IfSome result (λ taken. taken.0.rows ≡ rows_of queue.now (option_copied consumer.entry) groups.old) }
+    ensures names { IfSome result (λ taken. HasNames queue.now (option_copied consumer.entry) taken.0) }
+    ensures rows { IfSome result
+        (λ taken. taken.0.rows ≡ rows_of queue.now (option_copied consumer.entry) groups.old) }
     ensures none { IfNone result (rows_of queue.now (option_copied consumer.entry) groups.old ≡ []) }
-    ensures rest { groups.new ≡ filter (λ group. not (is_of queue.now (option_copied consumer.entry) group)) groups.old }
+    ensures rest { groups.new ≡ without_group queue.now (option_copied consumer.entry) groups.old }
     ensures less { IfSome result (λ _. length groups.new + 1 ≤ length groups.old) }
     ensures len { length groups.new ≤ length groups.old }
 {
@@ -187,7 +189,8 @@ fn take_named(
 // Takes the row at a place out of the group of a queue and a consumer.
 fn take_row(groups: &mut Ordered<Group>, queue: &Name, consumer: Option<&Name>, place: &Place)
     requires { length groups.old ≤ usize.MAX }
-    ensures rows { (q : Sequence ℕ) (c : Option (Sequence ℕ)) → rows_of q c groups.new ≡ (if is_of q c (key queue.now (option_copied consumer.entry)) then filter (λ row. not (is_eq (place_cmp row.place place.now))) (rows_of queue.now (option_copied consumer.entry) groups.old) else rows_of q c groups.old) }
+    ensures rows { EditsRows queue.now (option_copied consumer.entry) (without_place place.now)
+        groups.old groups.new }
     ensures fit { (n : ℕ) → AllFit n groups.old → AllFit n groups.new }
     ensures len { length groups.new ≤ length groups.old }
 {
