@@ -22,7 +22,7 @@ pub use kind::{Field, Kind, RecordType, TypeFault};
 pub use list::{Copied, Iter, List};
 pub use name::{Name, NameFault};
 pub use payload::{Loose, Member, Payload};
-pub use props::Prop;
+pub use props::{Prop, PropFault};
 pub use record::{Datum, PayloadFault, Record};
 pub use shared::Shared;
 pub use small_list::{SmallIter, SmallList};

@@ -81,7 +81,7 @@ fn is_name(text: &[u8]) -> bool
 
 impl Name {
     /// The name that a text is. `Bad` is told exactly where the text is none: a small letter, and
-    /// then small letters, digits and underscores, 30 bytes at most.
+    /// then small letters, digits and underscores, 128 bytes at most.
     pub fn read(alloc: Global, text: &str) -> Result<Name, NameFault>
         ensures ok { IfOk result (λ name. name ≡ text.now) }
         ensures named { OnOk result (IsTrue (is_name text.now)) }

@@ -99,7 +99,7 @@ fn judge_all(fields: &List<Field>, members: &List<Member>) -> Result<(), Payload
 }
 
 impl Datum {
-    fn of(value: &Loose) -> Result<Datum, AllocError>
+    pub(crate) fn of(value: &Loose) -> Result<Datum, AllocError>
         ensures { IfOk result (λ d. d ≡ datum_of value.now) }
     {
         match value {
