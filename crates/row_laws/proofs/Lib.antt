@@ -1,0 +1,4 @@
+pub mod Distinctly
+pub mod Finding
+pub mod Firsts
+pub mod Messages
