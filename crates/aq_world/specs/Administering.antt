@@ -3,10 +3,13 @@ use Rattle.std.specs.Prelude.{◌≡◌, ℕ, List, [], ◌∷◌, All, false, i
 use Rattle.queue_rows.specs.Rows.{find_table, find_queue}
 use Rattle.queue_rows.specs.Session.{Session}
 use Rattle.queue_rows.specs.Meaning.{Meaning}
+use Rattle.queue_rows.specs.Settling.{settled}
+use Rattle.queue_rows.specs.Turns.{ids_taken}
 use Rattle.queue_rows.specs.Administration.{administer, administered}
 use Rattle.queue_rows.specs.Catalog.{Judged}
 use Rattle.queue_rows.specs.declared.tables.Tables.{Tables}
 use Rattle.queue_rows.specs.declared.rows.QueueRow.{QueueRow}
+use Rattle.queue_rows.specs.declared.change.Change.{Change}
 use Rattle.queue_rows.specs.declared.change.Change.TheVariants.{PutQueue}
 use Rattle.queue_rows.specs.declared.history.SlotRef.{SlotRef}
 use Rattle.queue_rows.specs.declared.reply.Reply.TheVariants as replies
@@ -34,6 +37,16 @@ HasJudged judged e = (t : Tables) → HasMeaning (λ s. administered t s false j
 -- the effect is that of the statement, whoever the sessions are and whatever slot is being sent
 abbrev pub Administers : Tables → Admin → Effect → Type 0
 Administers t ask e = (sessions : List Session) (sent : Option SlotRef) (now : ℕ) → HasMeaning (λ s. administer t sessions sent s ask now) e
+
+-- changes of rows alone: they settle no message, and keep the numbers of the tables within any bounds
+pub record AreOfRows (changes : List Change) : Type 0 where
+  pub settled : (t : Tables) → settled t changes ≡ changes
+  pub within : (n g r : ℕ) → All (IsWithin n g r) changes
+
+-- what an administrative statement is judged to do may stand as it is
+abbrev pub MayStand : Judged → Type 0
+MayStand (Err reply) = ids_taken reply ≡ 0
+MayStand (Ok changes) = AreOfRows changes
 
 -- what it commits keeps the numbers of the tables within any bounds
 abbrev pub CommitsWithin : Effect → Type 0

@@ -1,16 +1,13 @@
-// What an administrative statement is answered.
-ghost use Rattle.std.specs.Prelude.{◌≡◌, ℕ, None, Some, Err, false, All, IfOk};
+// What an administrative statement commits, or why it is refused.
+ghost use Rattle.std.specs.Prelude.{◌≡◌, ℕ, None, Some, false, All, IfOk};
 ghost use Rattle.built_statements.specs.Built.{IsBuiltAdmin};
 ghost use Rattle.queue_rows.specs.Catalog.{judged, start, started, exception_row, new_queue};
-ghost use Rattle.queue_rows.specs.Meaning.{answers, unparked};
 ghost use Rattle.queue_rows.specs.Rows.{find_queue};
-ghost use Rattle.queue_rows.specs.Turns.{ids_taken};
 ghost use Rattle.queue_rows.specs.declared.statement.Admin.TheVariants as asks;
-ghost use Rattle.queue_rows.specs.declared.reply.Reply.TheVariants.{Ok};
 ghost use Rattle.sessions.specs.Effects.{IsAnswered, ids_of};
 ghost use Rattle.sessions.specs.Within.{IsQueueWithin};
 ghost use Rattle.sessions.specs.declared.state.PositionMove.TheVariants.{Keep};
-ghost use Rattle.aq_world.specs.Administering.{add_queue, Administers, HasJudged, HasMeaning, CommitsWithin, IsPlainEffect};
+ghost use Rattle.aq_world.specs.Administering.{add_queue, Administers, HasJudged, MayStand, CommitsWithin, IsPlainEffect};
 
 use exception_queues::{find_queue, find_table, is_exception};
 use message_store::Store;
@@ -20,22 +17,8 @@ use queue_rows::{Admin, Change, QueueKind, QueueRow, Reply, TableRow, Tables};
 use sessions::{Effect, Verdict};
 use std::alloc::{AllocError, Global};
 
-fn refused(alloc: Global, reply: Reply) -> Effect
-    requires { ids_taken reply ≡ 0 }
-    ensures means { HasJudged (Err reply) result }
-    ensures plain { IsPlainEffect result }
-    ensures within { CommitsWithin result }
-{
-    Effect::answered(alloc, reply)
-}
-
-fn accepted(commit: List<Change>) -> Effect
-    ensures means { HasMeaning (λ s. answers Ok commit (unparked s)) result }
-    ensures plain { IsPlainEffect result }
-    ensures commit { result.commit ≡ commit }
-{
-    Effect::plain(Verdict::Answer(Reply::Ok), commit)
-}
+// What a statement commits, or why it is refused.
+type Judged = Result<List<Change>, Reply>;
 
 fn exception_row(table: &Name) -> Result<QueueRow, AllocError>
     ensures { IfOk result (λ row. row ≡ exception_row table.now) }
@@ -60,15 +43,14 @@ fn create_table(
     table: &Name,
     fields: &RecordType,
     sort: &SortList,
-) -> Result<Effect, AllocError>
-    ensures means { (now : ℕ) → IfOk result (HasJudged
-        (judged tables.now (asks.CreateTable table.now fields.now sort.now false false) now)) }
-    ensures plain { IfOk result IsPlainEffect }
-    ensures within { IfOk result CommitsWithin }
+) -> Result<Judged, AllocError>
+    ensures judged { (now : ℕ) → IfOk result (λ j. j ≡
+        judged tables.now (asks.CreateTable table.now fields.now sort.now false false) now) }
+    ensures stands { IfOk result MayStand }
 {
     let exception = exception_row(table)?;
     if find_table(tables, table).is_some() || find_queue(tables, &exception.name).is_some() {
-        return Ok(refused(alloc, Reply::Exists));
+        return Ok(Err(Reply::Exists));
     }
     let row = TableRow {
         name: table.copied()?,
@@ -80,7 +62,7 @@ fn create_table(
     let mut commit = List::new(alloc);
     commit.push(Change::PutTable(row))?;
     commit.push(Change::PutQueue(exception))?;
-    Ok(accepted(commit))
+    Ok(Ok(commit))
 }
 
 fn new_queue(
@@ -106,21 +88,20 @@ fn new_queue(
     })
 }
 
-fn create_queue(alloc: Global, tables: &Tables, row: QueueRow) -> Result<Effect, AllocError>
+fn create_queue(alloc: Global, tables: &Tables, row: QueueRow) -> Result<Judged, AllocError>
     requires { IsQueueWithin row }
-    ensures means { IfOk result (HasJudged (add_queue tables.now row)) }
-    ensures plain { IfOk result IsPlainEffect }
-    ensures within { IfOk result CommitsWithin }
+    ensures judged { IfOk result (λ j. j ≡ add_queue tables.now row) }
+    ensures stands { IfOk result MayStand }
 {
     if find_table(tables, &row.table).is_none() {
-        return Ok(refused(alloc, Reply::NoTable));
+        return Ok(Err(Reply::NoTable));
     }
     if find_queue(tables, &row.name).is_some() {
-        return Ok(refused(alloc, Reply::Exists));
+        return Ok(Err(Reply::Exists));
     }
     let mut commit = List::new(alloc);
     commit.push(Change::PutQueue(row))?;
-    Ok(accepted(commit))
+    Ok(Ok(commit))
 }
 
 fn started(row: &QueueRow, enqueue: Option<bool>, dequeue: bool) -> Result<QueueRow, AllocError>
@@ -138,18 +119,17 @@ fn start_row(
     row: &QueueRow,
     enqueue: Option<bool>,
     dequeue: bool,
-) -> Result<Effect, AllocError>
+) -> Result<Judged, AllocError>
     requires { IsQueueWithin row.now }
-    ensures means { IfOk result (HasJudged (start (Some row.now) enqueue dequeue)) }
-    ensures plain { IfOk result IsPlainEffect }
-    ensures within { IfOk result CommitsWithin }
+    ensures judged { IfOk result (λ j. j ≡ start (Some row.now) enqueue dequeue) }
+    ensures stands { IfOk result MayStand }
 {
     if is_exception(row.kind) && enqueue.unwrap_or(false) {
-        return Ok(refused(alloc, Reply::WrongKind));
+        return Ok(Err(Reply::WrongKind));
     }
     let mut commit = List::new(alloc);
     commit.push(Change::PutQueue(started(row, enqueue, dequeue)?))?;
-    Ok(accepted(commit))
+    Ok(Ok(commit))
 }
 
 fn start_queue(
@@ -158,25 +138,23 @@ fn start_queue(
     queue: &Name,
     enqueue: Option<bool>,
     dequeue: bool,
-) -> Result<Effect, AllocError>
+) -> Result<Judged, AllocError>
     requires { All IsQueueWithin tables.now.queues }
-    ensures means { IfOk result (HasJudged (start (find_queue tables.now queue.now) enqueue dequeue)) }
-    ensures plain { IfOk result IsPlainEffect }
-    ensures within { IfOk result CommitsWithin }
+    ensures judged { IfOk result (λ j. j ≡ start (find_queue tables.now queue.now) enqueue dequeue) }
+    ensures stands { IfOk result MayStand }
 {
     match find_queue(tables, queue) {
         Some(row) => start_row(alloc, row, enqueue, dequeue),
-        None => Ok(refused(alloc, Reply::NoQueue)),
+        None => Ok(Err(Reply::NoQueue)),
     }
 }
 
-#[tactic(auto, unfolding(queue_rows::specs::Administration::administer, queue_rows::specs::Catalog::judged))]
-fn admin_of(alloc: Global, tables: &Tables, ask: &Admin) -> Result<Effect, AllocError>
+#[tactic(auto, unfolding(queue_rows::specs::Catalog::judged))]
+fn judge(alloc: Global, tables: &Tables, ask: &Admin) -> Result<Judged, AllocError>
     requires built { IsBuiltAdmin ask.now }
     requires queues { All IsQueueWithin tables.now.queues }
-    ensures means { IfOk result (Administers tables.now ask.now) }
-    ensures plain { IfOk result IsPlainEffect }
-    ensures within { IfOk result CommitsWithin }
+    ensures judged { (now : ℕ) → IfOk result (λ j. j ≡ judged tables.now ask.now now) }
+    ensures stands { IfOk result MayStand }
 {
     match ask {
         Admin::CreateTable {
@@ -205,6 +183,18 @@ fn admin_of(alloc: Global, tables: &Tables, ask: &Admin) -> Result<Effect, Alloc
     }
 }
 
+fn effect_of(alloc: Global, judged: Judged) -> Effect
+    requires { MayStand judged }
+    ensures means { HasJudged judged result }
+    ensures plain { IsPlainEffect result }
+    ensures within { CommitsWithin result }
+{
+    match judged {
+        Err(reply) => Effect::answered(alloc, reply),
+        Ok(commit) => Effect::plain(Verdict::Answer(Reply::Ok), commit),
+    }
+}
+
 /// What an administrative statement does. It leaves its session's transaction alone.
 pub fn admin(alloc: Global, store: &Store, ask: &Admin) -> Result<Effect, AllocError>
     requires built { IsBuiltAdmin ask.now }
@@ -217,5 +207,6 @@ pub fn admin(alloc: Global, store: &Store, ask: &Admin) -> Result<Effect, AllocE
     ensures done { IfOk result (λ e. e.pend ≡ None) }
     ensures stays { IfOk result (λ e. e.position ≡ Keep) }
 {
-    admin_of(alloc, store.tables(), ask)
+    let judged = judge(alloc, store.tables(), ask)?;
+    Ok(effect_of(alloc, judged))
 }
