@@ -1,8 +1,11 @@
 -- Rows of queues within bounds; and what an administrative statement means, by what it is judged to do.
-use Rattle.std.proofs.Common.{◌≡◌, ⊥, List, Option, Some, Bool, false, All, refl, sym, ap, subst, absurd, ◌∙◌}
+use Rattle.std.proofs.Common.{◌≡◌, List, Option, Some, Bool, false, All, refl, sym, ap, subst, ◌∙◌}
 use Rattle.std.specs.Prelude.{ℕ, IfSome, find}
 use Rattle.std.specs.Str.{bytes_eq}
 use Rattle.aq_base.specs.declared.DbId.{DbId}
+use Rattle.payload_records.specs.declared.name.Name.{Name}
+use Rattle.payload_records.specs.declared.kind.RecordType.{RecordType}
+use Rattle.place_keys.specs.declared.sort_list.SortList.{SortList}
 use Rattle.built_statements.specs.Built.{IsBuiltAdmin}
 use Rattle.queue_rows.specs.Administration.{administer, administered, is_hindered}
 use Rattle.queue_rows.specs.Catalog.{Judged, judged}
@@ -19,6 +22,13 @@ use Rattle.aq_world.specs.Administering.{Administers, HasJudged}
 
 pub found_within : (name : List ℕ) (queues : List QueueRow) (row : QueueRow) → All IsQueueWithin queues → find (λ r. bytes_eq r.name name) queues ≡ Some row → IsQueueWithin row
 found_within name queues row all found = subst (λ o. IfSome o IsQueueWithin) found (found_each IsQueueWithin (λ r. bytes_eq r.name name) queues all)
+
+-- a table that is asked for has neither consumers nor groups
+pub plain_table : (ask : Admin) (table : Name) (fields : RecordType) (sort : SortList) (multi grouped : Bool) → IsBuiltAdmin ask
+    → ask ≡ asks.CreateTable table fields sort multi grouped → asks.CreateTable table fields sort false false ≡ ask
+plain_table ask table fields sort multi grouped built e =
+    let plain : IsBuiltAdmin (asks.CreateTable table fields sort multi grouped) = subst IsBuiltAdmin e built in
+    ap (λ g. asks.CreateTable table fields sort false g) (sym plain.1) ∙ ap (λ m. asks.CreateTable table fields sort m grouped) (sym plain.0) ∙ sym e
 
 -- nothing outstanding stands against a statement that is built
 unhindered : (t : Tables) (db : DbId) (sessions : List Session) (sent : Option SlotRef) (ask : Admin) → IsBuiltAdmin ask → is_hindered t db sessions sent ask ≡ false

@@ -1,7 +1,9 @@
-use Rattle.std.proofs.Common.{ap}
-use Rattle.queue_rows.specs.Meaning.{answers, unparked}
-use Rattle.queue_rows.specs.declared.reply.Reply.TheVariants.{Ok}
+use Rattle.std.proofs.Common.{sym, subst}
+use Rattle.sessions.specs.declared.state.Effect.{Effect}
+use Rattle.aq_world.specs.Administering.{AreOfRows, CommitsWithin, MayStand}
 use Rattle.aq_world.proofs.admin.effect_of.Goals as goal
 
-pub returns-in-Ok-clause-means : goal.returns-in-Ok-clause-means
-returns-in-Ok-clause-means c = λ t s queue consumer moment. ap (λ changes. answers Ok changes (unparked s)) (c.requires.settled t)
+pub returns-in-Ok-clause-within : goal.returns-in-Ok-clause-within
+returns-in-Ok-clause-within c =
+    let rows : AreOfRows c.in-Ok.commit = subst MayStand c.in-Ok.is c.requires in
+    subst (λ (e : Effect). CommitsWithin e) (sym c.plain.ensures) rows.within
