@@ -1,6 +1,6 @@
 -- What changes make of the messages that they name.
-use Rattle.std.specs.Prelude.{◌≡◌, ◌++◌, ◌∷◌, ℕ, ◌==◌, List, [], Option, Some, None, find, is_some, nat_eq, if◌then◌else◌}
-use Rattle.std.specs.List.{list_any}
+use Rattle.std.specs.Prelude.{◌≡◌, ◌++◌, ◌∷◌, ℕ, ◌==◌, List, [], Option, Some, None, Result, OnOk, find, is_some, nat_eq, option_map, if◌then◌else◌}
+use Rattle.std.specs.List.{list_any, flat_map}
 use Rattle.std.specs.HashMap.{get}
 use Rattle.std.specs.Option.{option_or, unwrap_or}
 use Rattle.queue_rows.specs.Settling.{names_of, message_after, last_moment, moment_by, settling_of}
@@ -31,6 +31,18 @@ pub record AreOutcomes (t : Tables) (cs : List Change) (all : Outcomes) : Type 0
   pub names : all.names.items ≡ names_of cs
   pub each : (id : ℕ) → outcome_of all id ≡ outcome_if_named t cs id
 
+-- one more is kept, and the others stay
+abbrev pub Keeps : Outcome → Outcomes → Outcomes → Type 0
+Keeps outcome old new = (q : ℕ) → outcome_of new q ≡ (if outcome.id == q then Some outcome else outcome_of old q)
+
+-- by number: that of this one goes on by the change, where there is one, and the others stay
+abbrev pub Advances : ℕ → Change → (ℕ → Option Outcome) → (ℕ → Option Outcome) → Type 0
+Advances id c old new = (q : ℕ) → new q ≡ (if id == q then option_map (next_outcome c) (old id) else old q)
+
+-- those of any changes become those of these and one more
+abbrev pub GoesOn : {A E : Type 0} → Result A E → Tables → Change → Outcomes → Outcomes → Type 0
+GoesOn made t c old new = (cs : List Change) → AreOutcomes t cs old → OnOk made (AreOutcomes t (cs ++ c ∷ []) new)
+
 -- the names with one that is kept from now on
 abbrev pub named_with : ℕ → Outcomes → List ℕ
 named_with id all = if is_some (outcome_of all id) then all.names.items else all.names.items ++ id ∷ []
@@ -44,3 +56,7 @@ IsFollowed t id c old new = (q : ℕ) → outcome_of new q
 abbrev pub settling_by : Tables → Option Outcome → List Change
 settling_by t None = []
 settling_by t (Some outcome) = settling_of t outcome.moment outcome.message
+
+-- what is settled by all outcomes, in the order in which their messages are named
+abbrev pub settled_by : Tables → Outcomes → List Change
+settled_by t all = flat_map (λ id. settling_by t (outcome_of all id)) all.names.items

@@ -1,12 +1,10 @@
 // What changes make of the messages that they name.
-ghost use Rattle.std.specs.Prelude.{◌≡◌, ◌==◌, ◌++◌, [], ◌∷◌, ℕ, List as Sequence, IfOk, OnOk, Some, None, find, is_some, nat_eq, option_copied, position, if◌then◌else◌};
+ghost use Rattle.std.specs.Prelude.{◌≡◌, ◌==◌, ◌++◌, [], ◌∷◌, ℕ, IfOk, OnOk, None, find, nat_eq, option_copied, position};
 ghost use Rattle.std.specs.HashMap.{get};
-ghost use Rattle.std.specs.Option.{option_map, unwrap_or};
 ghost use Rattle.queue_rows.specs.Rows.{changed_nth};
 ghost use Rattle.queue_rows.specs.Settling.{named_by, moment_by};
-ghost use Rattle.queue_rows.specs.declared.change.Change.{Change};
 ghost use Rattle.exception_queues.specs.Left.{left_some};
-ghost use Rattle.exception_queues.specs.Outcomes.{outcome_of, outcome_after, next_outcome, AreOutcomes, named_with, IsFollowed};
+ghost use Rattle.exception_queues.specs.Outcomes.{outcome_of, outcome_after, next_outcome, Advances, AreOutcomes, GoesOn, Keeps, named_with, IsFollowed};
 
 use crate::left::{left_some, message_of};
 use crate::lookup::MessageTables;
@@ -63,9 +61,7 @@ fn advance_at(few: &mut SmallList<Outcome>, at: usize, change: &Change) -> Resul
 }
 
 fn advance_in(many: &mut HashMap<u64, Outcome>, id: u64, change: &Change) -> Result<(), AllocError>
-    ensures { OnOk result ((q : ℕ) → get nat_eq many.new q
-        ≡ (if id == q then option_map (next_outcome change.now) (get nat_eq many.old id)
-        else get nat_eq many.old q)) }
+    ensures { OnOk result (Advances id change.now (get nat_eq many.old) (get nat_eq many.new)) }
 {
     match many.get_mut(&id) {
         Some(outcome) => outcome.advance(change),
@@ -114,8 +110,7 @@ impl Outcomes {
     fn keep(&mut self, outcome: Outcome) -> Result<(), AllocError>
         requires { outcome_of self.old outcome.id ≡ None }
         ensures names { OnOk result (self.new.names.items ≡ self.old.names.items) }
-        ensures outcomes { OnOk result ((q : ℕ) → outcome_of self.new q
-            ≡ (if outcome.id == q then Some outcome else outcome_of self.old q)) }
+        ensures outcomes { OnOk result (Keeps outcome self.old self.new) }
     {
         if self.few.len() < FEW {
             return self.few.push(outcome);
@@ -127,8 +122,7 @@ impl Outcomes {
     fn begin<T: MessageTables>(&mut self, tables: &T, id: u64) -> Result<(), AllocError>
         requires { outcome_of self.old id ≡ None }
         ensures names { OnOk result (self.new.names.items ≡ self.old.names.items ++ id ∷ []) }
-        ensures outcomes { OnOk result ((q : ℕ) → outcome_of self.new q
-            ≡ (if id == q then Some (outcome_after (T.tables tables.now) [] id) else outcome_of self.old q)) }
+        ensures outcomes { OnOk result (Keeps (outcome_after (T.tables tables.now) [] id) self.old self.new) }
     {
         self.keep(Outcome {
             id,
@@ -141,9 +135,7 @@ impl Outcomes {
 
     fn advance(&mut self, id: u64, change: &Change) -> Result<(), AllocError>
         ensures names { OnOk result (self.new.names.items ≡ self.old.names.items) }
-        ensures outcomes { OnOk result ((q : ℕ) → outcome_of self.new q
-            ≡ (if id == q then option_map (next_outcome change.now) (outcome_of self.old id)
-            else outcome_of self.old q)) }
+        ensures outcomes { OnOk result (Advances id change.now (outcome_of self.old) (outcome_of self.new)) }
     {
         match place_of(&self.few, id) {
             Some(at) => advance_at(&mut self.few, at, change),
@@ -169,8 +161,7 @@ impl Outcomes {
 
     /// Goes on by one more change.
     fn follow<T: MessageTables>(&mut self, tables: &T, change: &Change) -> Result<(), AllocError>
-        ensures { (cs : Sequence Change) → AreOutcomes (T.tables tables.now) cs self.old
-            → OnOk result (AreOutcomes (T.tables tables.now) (cs ++ change.now ∷ []) self.new) }
+        ensures { GoesOn result (T.tables tables.now) change.now self.old self.new }
     {
         match named_by(change) {
             Some(id) => self.follow_named(tables, id, change),

@@ -1,8 +1,7 @@
 // What becomes of the messages that changes name.
 ghost use Rattle.std.specs.Prelude.{◌≡◌, ◌++◌, [], IfOk, OnOk, Some, None, option_copied};
-ghost use Rattle.std.specs.List.{flat_map};
 ghost use Rattle.queue_rows.specs.Settling.{is_exception_of, named_or_default, exception_queue_of, retention_of, is_lost, is_handled, is_kept_by_none, settling_of, settled};
-ghost use Rattle.exception_queues.specs.Outcomes.{outcome_of, settling_by};
+ghost use Rattle.exception_queues.specs.Outcomes.{outcome_of, settled_by, settling_by};
 
 use crate::lookup::{MessageTables, find_queue};
 use crate::outcomes::{Outcome, Outcomes, outcomes_of};
@@ -133,8 +132,7 @@ fn settle_all(
     tables: &Tables,
     outcomes: &Outcomes,
 ) -> Result<List<Change>, AllocError>
-    ensures { IfOk result (λ all. all ≡ changes
-        ++ flat_map (λ id. settling_by tables.now (outcome_of outcomes.now id)) outcomes.now.names.items) }
+    ensures { IfOk result (λ all. all ≡ changes ++ settled_by tables.now outcomes.now) }
 {
     for id in outcomes.names() {
         settle_named(&mut changes, tables, outcomes, *id)?;
