@@ -1,5 +1,7 @@
 pub mod Effects
 pub mod Numbers
+pub mod Retries
 pub mod Running
+pub mod Stamped
 pub mod States
 pub mod Within

@@ -1,5 +1,5 @@
 -- Tables whose numbers stay within bounds, and the changes that keep them so.
-use Rattle.std.specs.Prelude.{◌≡◌, ◌<◌, ◌≤◌, ◌^◌, ℕ, false, All}
+use Rattle.std.specs.Prelude.{◌≡◌, ◌<◌, ◌≤◌, ◌+◌, ◌^◌, ℕ, List, Result, false, All, IfOk}
 use Rattle.queue_rows.specs.Tables.{lane_of}
 use Rattle.queue_rows.specs.declared.tables.Tables.{Tables}
 use Rattle.queue_rows.specs.declared.rows.TableRow.{TableRow}
@@ -63,6 +63,16 @@ pub record IsAdditionWithin (n g r group : ℕ) (m : MsgRow) : Type 0 where
 abbrev pub IsPendingWithin : ℕ → ℕ → ℕ → ℕ → Pending → Type 0
 IsPendingWithin n g r group (Add m) = IsAdditionWithin n g r group m
 IsPendingWithin n g r group (Remove id slot) = Unit {0}
+
+-- what a commit of these makes stays within all bounds within which they are
+abbrev pub CommitStaysWithin : {E : Type 0} → Tables → List Pending → Result (List Change) E → Type 0
+CommitStaysWithin t pending made = (n g r : ℕ) → All (IsPendingWithin n g r t.transaction) pending
+    → IfOk made (λ changes. All (IsWithin n g r) changes)
+
+-- what a rollback makes stays within all bounds within which the messages are, with one retry more
+abbrev pub RollbackStaysWithin : {E : Type 0} → Tables → Result (List Change) E → Type 0
+RollbackStaysWithin t made = (n g r : ℕ) → All (IsMessageWithin r) t.messages
+    → IfOk made (λ changes. All (IsWithin n g (r + 1)) changes)
 
 -- an addition of the message with that id, which nobody has taken yet
 pub record IsNewAddition (number : ℕ) (m : MsgRow) : Type 0 where

@@ -1,10 +1,11 @@
 // What a session commits.
-ghost use Rattle.std.specs.Prelude.{◌≡◌, ◌<◌, ◌≤◌, ◌^◌, ℕ, All, IfOk, length};
+ghost use Rattle.std.specs.Prelude.{◌≡◌, ◌<◌, ◌≤◌, ◌^◌, All, IfOk, length};
 ghost use Rattle.std.specs.List.{list_any};
-ghost use Rattle.queue_rows.specs.Commits.{changes_from, commit_of};
+ghost use Rattle.queue_rows.specs.Commits.{commit_of};
 ghost use Rattle.sessions.specs.Numbers.{IsLowest, IsPendable};
-ghost use Rattle.sessions.specs.Running.{is_addition, with_queues};
-ghost use Rattle.sessions.specs.Within.{IsWithin, IsPendingWithin};
+ghost use Rattle.sessions.specs.Running.{AreEnoughFor, is_addition};
+ghost use Rattle.sessions.specs.Stamped.{changes_at};
+ghost use Rattle.sessions.specs.Within.{CommitStaysWithin};
 
 use crate::SessionState;
 use crate::completed::{Stamp, change_of};
@@ -33,7 +34,7 @@ fn any_addition(pending: &List<Pending>) -> bool
 #[tactic(auto, using(crate::proofs::Course::removals_alone))]
 fn queues_for(tables: &Tables, pending: &List<Pending>) -> Result<List<QueueRow>, AllocError>
     requires lowest { All (IsLowest (2 ^ 62)) tables.now.queues }
-    ensures same { IfOk result (λ queues. (group moment : ℕ) → changes_from (with_queues tables.now queues) group moment pending.now ≡ changes_from tables.now group moment pending.now) }
+    ensures same { IfOk result (AreEnoughFor tables.now pending.now) }
     ensures lowest { IfOk result (λ queues. All (IsLowest (2 ^ 62)) queues) }
 {
     if any_addition(pending) {
@@ -53,7 +54,7 @@ fn changes_from(
     requires count { length pending.now < 2 ^ 61 }
     requires lowest { All (IsLowest (2 ^ 62)) tables.now.queues }
     requires numbers { All IsPendable pending.now }
-    ensures { IfOk result (λ changes. changes ≡ changes_from tables.now stamp.group stamp.moment pending.now) }
+    ensures { IfOk result (λ changes. changes ≡ changes_at tables.now stamp pending.now) }
 {
     let alloc = pending.allocator();
     let mut queues = queues_for(tables, pending)?;
@@ -77,8 +78,8 @@ pub fn changes_of<T: MessageTables>(
     requires count { length pending.now < 2 ^ 61 }
     requires lowest { All (IsLowest (2 ^ 62)) (T.tables tables.now).queues }
     requires numbers { All IsPendable pending.now }
-    ensures changes { IfOk result (λ changes. changes ≡ commit_of (T.tables tables.now) moment pending.now) }
-    ensures within { (n g r : ℕ) → All (IsPendingWithin n g r (T.tables tables.now).transaction) pending.now → IfOk result (λ changes. All (IsWithin n g r) changes) }
+    ensures changes { IfOk result (λ it. it ≡ commit_of (T.tables tables.now) moment pending.now) }
+    ensures within { CommitStaysWithin (T.tables tables.now) pending.now result }
 {
     let rows = tables.tables();
     let stamp = Stamp {
@@ -99,8 +100,8 @@ pub fn commit_changes<T: MessageTables>(
     requires count { length session.now.pending < 2 ^ 61 }
     requires lowest { All (IsLowest (2 ^ 62)) (T.tables tables.now).queues }
     requires numbers { All IsPendable session.now.pending }
-    ensures changes { IfOk result (λ changes. changes ≡ commit_of (T.tables tables.now) moment session.now.pending) }
-    ensures within { (n g r : ℕ) → All (IsPendingWithin n g r (T.tables tables.now).transaction) session.now.pending → IfOk result (λ changes. All (IsWithin n g r) changes) }
+    ensures changes { IfOk result (λ it. it ≡ commit_of (T.tables tables.now) moment session.now.pending) }
+    ensures within { CommitStaysWithin (T.tables tables.now) session.now.pending result }
 {
     changes_of(tables, &session.pending, moment)
 }

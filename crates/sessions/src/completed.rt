@@ -1,9 +1,9 @@
 // Additions as their commit puts them in.
-ghost use Rattle.std.specs.Prelude.{◌≡◌, ◌<◌, ◌≤◌, ◌^◌, ◌-◌, map, All, IfOk, IfSome, Some, find, option_copied};
+ghost use Rattle.std.specs.Prelude.{◌≡◌, ◌<◌, ◌≤◌, ◌^◌, ◌-◌, map, All, IfOk, IfSome, find, option_copied};
 ghost use Rattle.std.specs.Str.{bytes_eq};
-ghost use Rattle.queue_rows.specs.Commits.{slot_at_commit, completed_in, completed_by, completed, change_of};
+ghost use Rattle.queue_rows.specs.Commits.{slot_at_commit};
 ghost use Rattle.sessions.specs.Numbers.{IsAbove, IsLowest, IsAddable, IsPendable};
-ghost use Rattle.sessions.specs.Running.{with_queues};
+ghost use Rattle.sessions.specs.Stamped.{completed_in_table, completed_for, completed_among, change_among};
 
 use crate::places::place_at_commit;
 use exception_queues::find_table;
@@ -52,7 +52,7 @@ fn completed_in_table(
     requires moment { stamp.moment ≤ 2 ^ 62 }
     requires lowest { IsAbove (2 ^ 63 - 1) queue.now.lowest }
     requires numbers { IsAddable message.now }
-    ensures { IfOk result (λ m. m ≡ completed_in (Some table.now) queue.now stamp.group stamp.moment message.now) }
+    ensures { IfOk result (λ m. m ≡ completed_in_table table.now queue.now stamp message.now) }
 {
     Ok(MsgRow {
         id: message.id,
@@ -78,7 +78,7 @@ fn completed_by(
     requires moment { stamp.moment ≤ 2 ^ 62 }
     requires lowest { IfSome (option_copied queue) (IsLowest (2 ^ 63 - 1)) }
     requires numbers { IsAddable message.now }
-    ensures { IfOk result (λ m. m ≡ completed_by tables.now (option_copied queue.entry) stamp.group stamp.moment message.now) }
+    ensures { IfOk result (λ m. m ≡ completed_for tables.now (option_copied queue.entry) stamp message.now) }
 {
     let Some(queue) = queue else {
         return message.copied();
@@ -107,7 +107,7 @@ fn completed(
     requires moment { stamp.moment ≤ 2 ^ 62 }
     requires lowest { All (IsLowest (2 ^ 63 - 1)) queues.now }
     requires numbers { IsAddable message.now }
-    ensures { IfOk result (λ m. m ≡ completed (with_queues tables.now queues.now) stamp.group stamp.moment message.now) }
+    ensures { IfOk result (λ m. m ≡ completed_among tables.now queues.now stamp message.now) }
 {
     let queue = queue_among(queues, &message.queue);
     completed_by(alloc, tables, queue, stamp, message)
@@ -125,7 +125,7 @@ pub fn change_of(
     requires moment { stamp.moment ≤ 2 ^ 62 }
     requires lowest { All (IsLowest (2 ^ 63 - 1)) queues.now }
     requires numbers { IsPendable pending.now }
-    ensures { IfOk result (λ change. change ≡ change_of (with_queues tables.now queues.now) stamp.group stamp.moment pending.now) }
+    ensures { IfOk result (λ change. change ≡ change_among tables.now queues.now stamp pending.now) }
 {
     match pending {
         Pending::Add(message) => Ok(Change::Enqueued(completed(

@@ -1,15 +1,26 @@
 // What a session's rollback commits.
-ghost use Rattle.std.specs.Prelude.{◌≡◌, ◌<◌, ◌≤◌, ◌^◌, ◌+◌, ◌++◌, ℕ, All, IfOk, IfSome, OnOk, option_copied};
-ghost use Rattle.std.specs.List.{flat_map};
-ghost use Rattle.queue_rows.specs.Transactions.{retry_until, expiry_of, retried_to, retry_slot, retry_in, retry_message, retry_of, rollback_of};
+ghost use Rattle.std.specs.Prelude.{◌≡◌, ◌<◌, ◌≤◌, ◌^◌, ◌++◌, All, IfOk, IfSome, OnOk, option_copied};
+ghost use Rattle.queue_rows.specs.Transactions.{retry_until, retry_of, rollback_of};
 ghost use Rattle.sessions.specs.Numbers.{IsCountable, AreCountable, IsDelaying};
-ghost use Rattle.sessions.specs.Within.{IsWithin, IsMessageWithin};
+ghost use Rattle.sessions.specs.Retries.{expiry_at, retried_at, slot_retried, retried_in, retried_for, retries_of};
+ghost use Rattle.sessions.specs.Within.{RollbackStaysWithin};
 
 use crate::SessionState;
 use exception_queues::{MessageTables, find_queue, is_exception, settle};
 use payload_records::List;
 use queue_rows::{Change, MsgRow, Pending, QueueRow, SlotRow, Tables};
 use std::alloc::AllocError;
+
+/// A slot that a session removed, and the moment at which it rolls that back.
+#[derive(Clone, Copy)]
+pub struct Removal {
+    /// The number of the message.
+    pub id: u64,
+    /// The slot of the message.
+    pub slot: u64,
+    /// The moment.
+    pub moment: u64,
+}
 
 fn retry_until(queue: &QueueRow, retries: u64, moment: u64) -> Option<u64>
     requires moment { moment ≤ 2 ^ 62 }
@@ -24,20 +35,18 @@ fn retry_until(queue: &QueueRow, retries: u64, moment: u64) -> Option<u64>
 }
 
 fn expire(
-    changes: &mut List<Change>,
+    made: &mut List<Change>,
     queue: &QueueRow,
     retries: u64,
-    moment: u64,
-    id: u64,
-    slot: u64,
+    at: Removal,
 ) -> Result<(), AllocError>
-    ensures { OnOk result (changes.new ≡ changes.old ++ expiry_of queue.now retries moment id slot) }
+    ensures { OnOk result (made.new ≡ made.old ++ expiry_at queue.now retries at) }
 {
     if retries > queue.max_retries {
-        changes.push(Change::Expired {
-            id,
-            slot,
-            at: moment,
+        made.push(Change::Expired {
+            id: at.id,
+            slot: at.slot,
+            at: at.moment,
         })
     } else {
         Ok(())
@@ -45,59 +54,53 @@ fn expire(
 }
 
 fn retry_to(
-    changes: &mut List<Change>,
+    made: &mut List<Change>,
     queue: &QueueRow,
     retries: u64,
-    moment: u64,
-    id: u64,
-    slot: u64,
+    at: Removal,
 ) -> Result<(), AllocError>
-    requires moment { moment ≤ 2 ^ 62 }
+    requires moment { at.moment ≤ 2 ^ 62 }
     requires delay { IsDelaying queue.now }
-    ensures { OnOk result (changes.new ≡ changes.old ++ retried_to queue.now retries moment id slot) }
+    ensures { OnOk result (made.new ≡ made.old ++ retried_at queue.now retries at) }
 {
-    changes.push(Change::Retried {
-        id,
-        slot,
+    made.push(Change::Retried {
+        id: at.id,
+        slot: at.slot,
         retries,
-        until: retry_until(queue, retries, moment),
-        at: moment,
+        until: retry_until(queue, retries, at.moment),
+        at: at.moment,
     })?;
-    expire(changes, queue, retries, moment, id, slot)
+    expire(made, queue, retries, at)
 }
 
 fn retry_slot(
-    changes: &mut List<Change>,
+    made: &mut List<Change>,
     queue: &QueueRow,
     row: Option<&SlotRow>,
-    moment: u64,
-    id: u64,
-    slot: u64,
+    at: Removal,
 ) -> Result<(), AllocError>
-    requires moment { moment ≤ 2 ^ 62 }
+    requires moment { at.moment ≤ 2 ^ 62 }
     requires delay { IsDelaying queue.now }
     requires retries { IfSome (option_copied row) IsCountable }
-    ensures { OnOk result (changes.new ≡ changes.old ++ retry_slot queue.now (option_copied row.entry) moment id slot) }
+    ensures { OnOk result (made.new ≡ made.old ++ slot_retried queue.now (option_copied row.entry) at) }
 {
     match row {
-        Some(row) => retry_to(changes, queue, row.retries + 1, moment, id, slot),
+        Some(row) => retry_to(made, queue, row.retries + 1, at),
         None => Ok(()),
     }
 }
 
 #[tactic(auto, using(crate::proofs::Each::got_each))]
 fn retry_in(
-    changes: &mut List<Change>,
+    made: &mut List<Change>,
     queue: Option<&QueueRow>,
     message: &MsgRow,
-    moment: u64,
-    id: u64,
-    slot: u64,
+    at: Removal,
 ) -> Result<(), AllocError>
-    requires moment { moment ≤ 2 ^ 62 }
+    requires moment { at.moment ≤ 2 ^ 62 }
     requires delay { IfSome (option_copied queue) IsDelaying }
     requires retries { AreCountable message.now }
-    ensures { OnOk result (changes.new ≡ changes.old ++ retry_in (option_copied queue.entry) message.now moment id slot) }
+    ensures { OnOk result (made.new ≡ made.old ++ retried_in (option_copied queue.entry) message.now at) }
 {
     let Some(queue) = queue else {
         return Ok(());
@@ -105,27 +108,25 @@ fn retry_in(
     if is_exception(queue.kind) {
         return Ok(());
     }
-    retry_slot(changes, queue, message.slot(slot), moment, id, slot)
+    retry_slot(made, queue, message.slot(at.slot), at)
 }
 
 #[tactic(auto, using(crate::proofs::Each::found_each))]
 fn retry_message(
-    changes: &mut List<Change>,
+    made: &mut List<Change>,
     tables: &Tables,
     message: Option<&MsgRow>,
-    moment: u64,
-    id: u64,
-    slot: u64,
+    at: Removal,
 ) -> Result<(), AllocError>
-    requires moment { moment ≤ 2 ^ 62 }
+    requires moment { at.moment ≤ 2 ^ 62 }
     requires delays { All IsDelaying tables.now.queues }
     requires retries { IfSome (option_copied message) AreCountable }
-    ensures { OnOk result (changes.new ≡ changes.old ++ retry_message tables.now (option_copied message.entry) moment id slot) }
+    ensures { OnOk result (made.new ≡ made.old ++ retried_for tables.now (option_copied message.entry) at) }
 {
     match message {
         Some(message) => {
             let queue = find_queue(tables, &message.queue);
-            retry_in(changes, queue, message, moment, id, slot)
+            retry_in(made, queue, message, at)
         }
         None => Ok(()),
     }
@@ -133,7 +134,7 @@ fn retry_message(
 
 #[tactic(auto, using(crate::proofs::Each::found_each))]
 fn retry<T: MessageTables>(
-    changes: &mut List<Change>,
+    made: &mut List<Change>,
     tables: &T,
     pending: &Pending,
     moment: u64,
@@ -141,14 +142,18 @@ fn retry<T: MessageTables>(
     requires moment { moment ≤ 2 ^ 62 }
     requires delays { All IsDelaying (T.tables tables.now).queues }
     requires retries { All AreCountable (T.tables tables.now).messages }
-    ensures { OnOk result (changes.new ≡ changes.old ++ retry_of (T.tables tables.now) moment pending.now) }
+    ensures { OnOk result (made.new ≡ made.old ++ retry_of (T.tables tables.now) moment pending.now) }
 {
     match pending {
         Pending::Add(_) => Ok(()),
         Pending::Remove { id, slot } => {
             let message = tables.message(*id);
-            let slot = u64::from(*slot);
-            retry_message(changes, tables.tables(), message, moment, *id, slot)
+            let at = Removal {
+                id: *id,
+                slot: u64::from(*slot),
+                moment,
+            };
+            retry_message(made, tables.tables(), message, at)
         }
     }
 }
@@ -161,7 +166,7 @@ fn retries_of<T: MessageTables>(
     requires moment { moment ≤ 2 ^ 62 }
     requires delays { All IsDelaying (T.tables tables.now).queues }
     requires retries { All AreCountable (T.tables tables.now).messages }
-    ensures { IfOk result (λ changes. changes ≡ flat_map (retry_of (T.tables tables.now) moment) pending.now) }
+    ensures { IfOk result (λ changes. changes ≡ retries_of (T.tables tables.now) moment pending.now) }
 {
     let mut changes = List::new(pending.allocator());
     for pending in pending {
@@ -179,8 +184,8 @@ pub fn rollback_changes<T: MessageTables>(
     requires moment { moment ≤ 2 ^ 62 }
     requires delays { All IsDelaying (T.tables tables.now).queues }
     requires retries { All AreCountable (T.tables tables.now).messages }
-    ensures changes { IfOk result (λ changes. changes ≡ rollback_of (T.tables tables.now) moment session.now.pending) }
-    ensures within { (n g r : ℕ) → All (IsMessageWithin r) (T.tables tables.now).messages → IfOk result (λ changes. All (IsWithin n g (r + 1)) changes) }
+    ensures changes { IfOk result (λ it. it ≡ rollback_of (T.tables tables.now) moment session.now.pending) }
+    ensures within { RollbackStaysWithin (T.tables tables.now) result }
 {
     settle(tables, retries_of(tables, &session.pending, moment)?)
 }

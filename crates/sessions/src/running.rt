@@ -1,9 +1,8 @@
 // The queues as the changes of a commit leave them, one after another.
 ghost use Rattle.std.specs.Prelude.{◌≡◌, ◌==◌, ◌<◌, IfSome, length, option_copied, position};
 ghost use Rattle.std.specs.Str.{bytes_eq};
-ghost use Rattle.queue_rows.specs.Rows.{changed_first};
 ghost use Rattle.queue_rows.specs.Tables.{is_grouped, lowered_to};
-ghost use Rattle.sessions.specs.Running.{queues_after};
+ghost use Rattle.sessions.specs.Running.{lowered_for, queues_after};
 
 use exception_queues::find_table;
 use payload_records::{List, Name};
@@ -33,8 +32,7 @@ fn lower(tables: &Tables, place: &Place, queue: &mut QueueRow)
 }
 
 fn lower_for(tables: &Tables, queues: &mut List<QueueRow>, message: &MsgRow)
-    ensures { queues.new ≡ changed_first (λ q. bytes_eq q.name message.now.queue)
-        (lowered_to tables.now.tables message.now.place) queues.old }
+    ensures { queues.new ≡ lowered_for tables.now.tables message.now queues.old }
 {
     let Some(index) = queue_place(queues, &message.queue) else {
         return;
