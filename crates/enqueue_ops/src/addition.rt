@@ -1,9 +1,10 @@
 // The message that an enqueue adds.
-ghost use Rattle.std.specs.Prelude.{◌≡◌, ◌+◌, ◌<◌, ◌≤◌, ◌^◌, ◌∷◌, [], map, pos, None, IfOk};
+ghost use Rattle.std.specs.Prelude.{◌≡◌, ◌<◌, ◌≤◌, ◌^◌, ◌∷◌, [], map, IfOk};
 ghost use Rattle.built_statements.specs.Built.{IsPlainEnqueue};
-ghost use Rattle.queue_rows.specs.Commits.{column_value, place_of};
-ghost use Rattle.queue_rows.specs.Enqueueing.{new_slot, lane_until_commit, addition};
+ghost use Rattle.queue_rows.specs.Commits.{column_value};
+ghost use Rattle.queue_rows.specs.Enqueueing.{new_slot};
 ghost use Rattle.queue_rows.specs.Recipients.{nameless};
+ghost use Rattle.enqueue_ops.specs.Added.{added, place_until_commit};
 
 use payload_records::{Copied, List, Record};
 use place_keys::{Column, Place, SortList};
@@ -56,8 +57,7 @@ fn place_of(
 ) -> Result<Place, AllocError>
     requires id { stamp.id < 2 ^ 61 }
     requires moment { stamp.moment ≤ 2 ^ 62 }
-    ensures { IfOk result (λ place. place
-        ≡ place_of (pos 0) table.now.columns priority stamp.moment stamp.moment stamp.id) }
+    ensures { IfOk result (λ place. place ≡ place_until_commit table.now priority stamp) }
 {
     let values = column_values(alloc, &table.columns, priority, stamp.moment)?;
     Place::of(alloc, 0, values.as_slice(), stamp.id)
@@ -91,8 +91,7 @@ pub fn addition(
     requires plain { IsPlainEnqueue ask.now }
     requires id { stamp.id < 2 ^ 61 }
     requires moment { stamp.moment ≤ 2 ^ 62 }
-    ensures { IfOk result (λ m. m
-        ≡ addition table.now ask.now cells (nameless ∷ []) None stamp.id stamp.moment) }
+    ensures { IfOk result (λ m. m ≡ added table.now ask.now cells stamp) }
 {
     Ok(MsgRow {
         id: stamp.id,

@@ -1,15 +1,10 @@
 // What an enqueue is answered.
-ghost use Rattle.std.specs.Prelude.{◌≡◌, ◌<◌, ◌≤◌, ◌+◌, ◌^◌, ℕ, List as Sequence, [], ◌∷◌, Option as Choice, None, Ok, All, IfOk, IfSome};
-ghost use Rattle.payload_records.specs.Record.{record_of};
+ghost use Rattle.std.specs.Prelude.{◌≡◌, ◌<◌, ◌≤◌, ◌+◌, ◌^◌, ℕ, [], ◌∷◌, None, Ok, All, IfOk, IfSome};
 ghost use Rattle.built_statements.specs.Built.{IsPlainEnqueue};
-ghost use Rattle.queue_rows.specs.Enqueueing.{enqueue, add, enqueue_cells};
-ghost use Rattle.queue_rows.specs.Meaning.{refused};
-ghost use Rattle.queue_rows.specs.Session.{Session};
 ghost use Rattle.queue_rows.specs.Turns.{ids_taken};
-ghost use Rattle.sessions.specs.Effects.{meant, IsAnswered, ids_of};
-ghost use Rattle.sessions.specs.States.{IsStateOf};
+ghost use Rattle.sessions.specs.Effects.{IsAnswered, ids_of};
 ghost use Rattle.sessions.specs.Within.{IsPlainTable, IsQueueWithin, IsWithin, IsNewAddition, AddsNew};
-ghost use Rattle.enqueue_ops.specs.Enqueued.{MeansFor, CommitsWithin};
+ghost use Rattle.enqueue_ops.specs.Enqueued.{IsRefusal, MeansToAdd, MeansToAddCells, MeansToAddPayload, MeansToEnqueue, CommitsBelow, CommitsWithin};
 
 use crate::addition::{Stamp, addition};
 use aq_base::{DbId, NEXT_LIMIT};
@@ -22,8 +17,7 @@ use std::alloc::{AllocError, Global};
 
 fn refused(alloc: Global, reply: Reply) -> Effect
     requires { ids_taken reply ≡ 0 }
-    ensures means { (s : Session) (queue : Sequence ℕ) (consumer : Choice (Sequence ℕ)) (moment : ℕ)
-        → refused s reply ≡ meant result queue consumer moment s }
+    ensures means { IsRefusal reply result }
     ensures answered { IsAnswered result.verdict }
     ensures ids { ids_of result.verdict ≡ 0 }
     ensures commit { result.commit ≡ [] }
@@ -56,12 +50,10 @@ fn add(
     requires queues { All IsQueueWithin store.now.queues }
     requires transaction { store.now.transaction ≤ message.id }
     requires moment { moment ≤ 2 ^ 62 }
-    ensures means { IfOk result
-        (MeansFor (λ s. s.at ≡ at) (λ s. add visibility store.now s message moment) moment) }
+    ensures means { IfOk result (MeansToAdd at visibility store.now message moment) }
     ensures answered { IfOk result (λ e. IsAnswered e.verdict) }
     ensures one { IfOk result (λ e. ids_of e.verdict ≡ 1) }
-    ensures within { IfOk result
-        (λ e. (r : ℕ) → All (IsWithin (message.id + 1) (store.now.transaction + 1) r) e.commit) }
+    ensures within { IfOk result (CommitsBelow (message.id + 1) (store.now.transaction + 1)) }
     ensures adds { IfOk result (λ e. IfSome e.pend (AddsNew message.id)) }
     ensures later { IfOk result (λ e. IfSome e.pend (λ p. e.commit ≡ [])) }
     ensures unmarked { IfOk result (λ e. e.mark ≡ None) }
@@ -101,9 +93,7 @@ fn add_read(
     requires transaction { store.now.transaction ≤ stamp.id }
     requires id { stamp.id ≤ 2 ^ 61 }
     requires moment { stamp.moment ≤ 2 ^ 62 }
-    ensures means { IfOk result (MeansFor (λ s. s.at ≡ at)
-        (λ s. enqueue_cells store.now s table.now ask.now (Ok cells) stamp.id stamp.moment)
-        stamp.moment) }
+    ensures means { IfOk result (MeansToAddCells at store.now table.now ask.now (Ok cells) stamp) }
     ensures answered { IfOk result (λ e. IsAnswered e.verdict) }
     ensures one { IfOk result (λ e. ids_of e.verdict ≤ 1) }
     ensures limit { IfOk result (λ e. stamp.id + ids_of e.verdict ≤ 2 ^ 61) }
@@ -134,10 +124,7 @@ fn read_and_add(
     requires transaction { store.now.transaction ≤ stamp.id }
     requires id { stamp.id ≤ 2 ^ 61 }
     requires moment { stamp.moment ≤ 2 ^ 62 }
-    ensures means { IfOk result (MeansFor (λ s. s.at ≡ at)
-        (λ s. let cells = record_of table.now.fields ask.now.payload in
-        enqueue_cells store.now s table.now ask.now cells stamp.id stamp.moment)
-        stamp.moment) }
+    ensures means { IfOk result (MeansToAddPayload at store.now table.now ask.now stamp) }
     ensures answered { IfOk result (λ e. IsAnswered e.verdict) }
     ensures one { IfOk result (λ e. ids_of e.verdict ≤ 1) }
     ensures limit { IfOk result (λ e. stamp.id + ids_of e.verdict ≤ 2 ^ 61) }
@@ -169,8 +156,7 @@ pub fn enqueue(
     requires transaction { store.now.transaction ≤ next }
     requires next { next ≤ 2 ^ 61 }
     requires moment { moment ≤ 2 ^ 62 }
-    ensures means { IfOk result
-        (MeansFor (IsStateOf session.now) (λ s. enqueue store.now s ask.now next moment) moment) }
+    ensures means { IfOk result (MeansToEnqueue session.now store.now ask.now next moment) }
     ensures answered { IfOk result (λ e. IsAnswered e.verdict) }
     ensures one { IfOk result (λ e. ids_of e.verdict ≤ 1) }
     ensures limit { IfOk result (λ e. next + ids_of e.verdict ≤ 2 ^ 61) }
