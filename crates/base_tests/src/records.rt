@@ -1,6 +1,6 @@
-// The worked record types and records, as JSON texts.
+// The worked record types, records and properties, as JSON texts.
 use payload_records::{
-    Copied, Datum, Field, Kind, List, Name, Payload, PayloadFault, Record, RecordType, Text,
+    Copied, Datum, Field, Kind, List, Name, Payload, PayloadFault, Prop, Record, RecordType, Text,
     TypeFault,
 };
 use serde_json::Value;
@@ -12,12 +12,12 @@ fn read_type(alloc: Global, text: &str) -> Result<RecordType, Fail> {
     Ok(RecordType::read(alloc, &value)?)
 }
 
-// An object of so many members f0, f1, ..
-fn many_fields(alloc: Global, count: usize) -> Result<String, Fail> {
+// An object of so many members f0, f1, .. with one value.
+fn many_members(alloc: Global, count: usize, value: &str) -> Result<String, Fail> {
     let mut text = String::from_str(alloc, "{")?;
     for at in 0..count {
         let comma = if at == 0 { "" } else { "," };
-        write!(text, "{comma}\"f{at}\":\"num\"")?;
+        write!(text, "{comma}\"f{at}\":{value}")?;
     }
     text.push_str("}")?;
     Ok(text)
@@ -25,8 +25,8 @@ fn many_fields(alloc: Global, count: usize) -> Result<String, Fail> {
 
 #[test]
 fn types_are_read(rt: HostRuntime) -> Result<(), Fail> {
-    let most = many_fields(rt.alloc(), 32)?;
-    let over = many_fields(rt.alloc(), 33)?;
+    let most = many_members(rt.alloc(), 32, "\"num\"")?;
+    let over = many_members(rt.alloc(), 33, "\"num\"")?;
     let rows = [
         ("{}", true),
         ("{\"region\":\"text\",\"qty\":\"num\"}", true),
@@ -151,5 +151,49 @@ fn parts_of_records_are_seen_and_copied(rt: HostRuntime) -> Result<(), Fail> {
     assert!(rt; record == record.copied()?);
     let fault = PayloadFault::UnknownField(Text::of(rt.alloc(), "zz")?);
     assert!(rt; fault == fault.copied()?);
+    Ok(())
+}
+
+// The properties that a JSON text gives, or that it gives none.
+fn props_told(alloc: Global, text: &str) -> Result<String, Fail> {
+    let mut told = String::new(alloc);
+    let props = match Prop::read_all(alloc, &Value::from_str(alloc, text)?) {
+        Ok(props) => props,
+        Err(fault) => return Ok(format!(in alloc; "{fault:?}")?),
+    };
+    for prop in &props {
+        match &prop.value {
+            Datum::Null => told.push_str("null")?,
+            Datum::Num(number) => write!(told, "{}={number};", prop.name.as_str())?,
+            Datum::Text(text) => write!(told, "{}='{}';", prop.name.as_str(), text.as_str())?,
+        }
+    }
+    Ok(told)
+}
+
+#[test]
+fn properties_are_read(rt: HostRuntime) -> Result<(), Fail> {
+    let alloc = rt.alloc();
+    let rows = [
+        ("{}", ""),
+        ("{\"zone\":\"n\",\"lvl\":2}", "lvl=2;zone='n';"),
+        ("{\"a\":null,\"b\":\"\",\"c\":0}", "c=0;"),
+        ("{\"Q\":null}", "Bad"),
+        ("{\"a\":1,\"b\":true}", "Bad"),
+        ("{\"a\":9223372036854775808}", "Bad"),
+        ("[]", "Bad"),
+        ("null", "Bad"),
+    ];
+    for (text, want) in rows {
+        assert_eq!(rt; props_told(alloc, text)?.as_str(), want);
+    }
+    let most = many_members(alloc, 32, "null")?;
+    let over = many_members(alloc, 33, "null")?;
+    assert_eq!(rt; props_told(alloc, most.as_str())?.as_str(), "");
+    assert_eq!(rt; props_told(alloc, over.as_str())?.as_str(), "Bad");
+    let most = long_text(alloc, 4000)?;
+    let over = long_text(alloc, 4001)?;
+    assert_eq!(rt; props_told(alloc, most.as_str())?.len(), 4010);
+    assert_eq!(rt; props_told(alloc, over.as_str())?.as_str(), "Bad");
     Ok(())
 }
