@@ -1,12 +1,14 @@
 -- Which of the messages a dequeue gives.
-use Rattle.std.specs.Prelude.{◌&&◌, List, Bool, true, Option, Some, None, filter, if◌then◌else◌}
+use denote.Ref.{Bor}
+use Rattle.std.specs.Prelude.{◌&&◌, List, Bool, true, Option, Some, None, filter, option_copied, if◌then◌else◌}
 use Rattle.std.specs.Option.{option_or}
 use Rattle.queue_rows.specs.Dequeueing.{is_browse, is_past, least}
 use Rattle.queue_rows.specs.declared.rows.MsgRow.{MsgRow}
 use Rattle.queue_rows.specs.declared.session.Position.{Position}
 use Rattle.queue_rows.specs.declared.statement.Navigation.{Navigation}
 use Rattle.queue_rows.specs.declared.statement.Navigation.TheVariants as navigations
-use Rattle.dequeue_ops.specs.Available.{Criteria, is_available}
+use Rattle.dequeue_ops.specs.Available.{Criteria, criteria, is_available}
+use Rattle.dequeue_ops.specs.declared.availability.Selection.{Selection}
 
 -- the message stands behind the position, where there is one
 abbrev pub is_behind : Option Position → MsgRow → Bool
@@ -31,3 +33,14 @@ chosen_or_first c behind ms = if is_browse c.mode then behind else option_or beh
 
 abbrev pub chosen_behind : Criteria → Option Position → List MsgRow → Option MsgRow
 chosen_behind c p ms = chosen_or_first c (least_wanted c p ms) ms
+
+-- ---- the same by a selection, and by borrowed values
+
+abbrev pub least_selected : Selection → Option (Bor Position) → List MsgRow → Option MsgRow
+least_selected s p ms = least_wanted (criteria s) (option_copied p) ms
+
+abbrev pub selected_or_first : Selection → Option (Bor MsgRow) → List MsgRow → Option MsgRow
+selected_or_first s behind ms = chosen_or_first (criteria s) (option_copied behind) ms
+
+abbrev pub selected_behind : Selection → Option (Bor Position) → List MsgRow → Option MsgRow
+selected_behind s p ms = chosen_behind (criteria s) (option_copied p) ms

@@ -1,12 +1,13 @@
 -- What a dequeue without a consumer does to its session.
-use Rattle.std.specs.Prelude.{ℕ, List, [], ◌∷◌, Bool, true, false, not, Option, Some, None, find, if◌then◌else◌}
+use denote.Ref.{Bor}
+use Rattle.std.specs.Prelude.{◌≡◌, ℕ, List, [], ◌∷◌, Bool, true, false, not, Option, Some, None, find, option_copied, slice_get, if◌then◌else◌}
 use Rattle.aq_base.specs.declared.DbId.{DbId}
 use Rattle.slot_marks.specs.Marks.{SessionMarks}
 use Rattle.slot_marks.specs.declared.mark.Mark.{Mark}
 use Rattle.queue_rows.specs.Rows.{find_table, find_queue}
 use Rattle.queue_rows.specs.Commits.{commit_of}
-use Rattle.queue_rows.specs.Session.{is_position}
-use Rattle.queue_rows.specs.Dequeueing.{shown_in, retries_of}
+use Rattle.queue_rows.specs.Session.{Session, is_position}
+use Rattle.queue_rows.specs.Dequeueing.{dequeue, shown_in, retries_of}
 use Rattle.queue_rows.specs.declared.tables.Tables.{Tables}
 use Rattle.queue_rows.specs.declared.rows.TableRow.{TableRow}
 use Rattle.queue_rows.specs.declared.rows.QueueRow.{QueueRow}
@@ -23,8 +24,10 @@ use Rattle.queue_rows.specs.declared.statement.Navigation.{Navigation}
 use Rattle.queue_rows.specs.declared.statement.Navigation.TheVariants as navigations
 use Rattle.queue_rows.specs.declared.statement.Visibility.{Visibility}
 use Rattle.queue_rows.specs.declared.statement.Visibility.TheVariants as visibilities
-use Rattle.sessions.specs.Effects.{plain_effect}
+use Rattle.sessions.specs.Effects.{meant, plain_effect}
+use Rattle.sessions.specs.States.{AreMarks, IsStateOf}
 use Rattle.sessions.specs.declared.state.Effect.{Effect}
+use Rattle.sessions.specs.declared.state.SessionState.{SessionState}
 use Rattle.sessions.specs.declared.state.Verdict.TheVariants as verdicts
 use Rattle.sessions.specs.declared.state.PositionMove.{PositionMove}
 use Rattle.sessions.specs.declared.state.PositionMove.TheVariants as moves
@@ -110,6 +113,10 @@ giving_in modes.Remove visibilities.OnCommit t moment d = taking_later d
 giving_in modes.RemoveNodata visibilities.OnCommit t moment d = taking_later d
 giving_in modes.Locked visibilities.OnCommit t moment d = locking d
 
+-- by the mode and visibility that are asked for
+abbrev pub giving : Asked → Delivery → Effect
+giving a d = giving_in a.ask.mode a.ask.visibility a.tables a.moment d
+
 abbrev pub delivery_of : Asked → QueueRow → TableRow → MsgRow → Delivery
 delivery_of a queue table m = record {
   reply = message_reply a.at a.ask.mode table m (own_slot queue);
@@ -122,8 +129,7 @@ delivery_of a queue table m = record {
 
 abbrev pub effect_by : Asked → QueueRow → TableRow → Option MsgRow → Effect
 effect_by a queue table None = answering replies.NoMessage (move_of a.ask.navigation)
-effect_by a queue table (Some m) =
-    giving_in a.ask.mode a.ask.visibility a.tables a.moment (delivery_of a queue table m)
+effect_by a queue table (Some m) = giving a (delivery_of a queue table m)
 
 -- the message of the queue that is given
 abbrev pub chosen_in : Asked → QueueRow → Option MsgRow
@@ -143,3 +149,17 @@ effect_from a (Some queue) = if not queue.dequeue then refusing replies.DequeueO
 
 abbrev pub effect_of : Asked → Effect
 effect_of a = effect_from a (find_queue a.tables a.ask.queue)
+
+-- ---- the same by what is asked in, and by borrowed values
+
+abbrev pub effect_of_message : Request → QueueRow → TableRow → Option (Bor MsgRow) → Effect
+effect_of_message r queue table m = effect_by (asked r) queue table (option_copied m)
+
+abbrev pub effect_in_table : Request → QueueRow → Option (Bor TableRow) → Effect
+effect_in_table r queue table = effect_in (asked r) queue (option_copied table)
+
+-- what a dequeue means for each session with that state, where the locks keep the marks of the sessions
+abbrev pub MeansToDequeue : Tables → List SessionMarks → ℕ → SessionState → Dequeue → ℕ → Effect → Type 0
+MeansToDequeue t locks actor state ask moment e = (sessions : List Session) (s : Session)
+    → AreMarks state.at sessions locks → slice_get sessions actor ≡ Some s → IsStateOf state s
+    → dequeue t sessions actor s ask moment ≡ meant e ask.queue ask.consumer moment s

@@ -3,7 +3,7 @@ ghost use Rattle.std.specs.Prelude.{◌≡◌, Some, None, find, option_copied};
 ghost use Rattle.queue_rows.specs.Session.{is_position};
 ghost use Rattle.queue_rows.specs.Dequeueing.{nearer, is_past};
 ghost use Rattle.dequeue_ops.specs.Available.{criteria};
-ghost use Rattle.dequeue_ops.specs.Chosen.{is_behind, is_wanted, least_wanted, begin_of, chosen_or_first, chosen_behind};
+ghost use Rattle.dequeue_ops.specs.Chosen.{is_behind, is_wanted, begin_of, least_selected, selected_or_first, selected_behind};
 
 use crate::availability::{Selection, is_available, is_browse};
 use payload_records::{List, Name};
@@ -77,8 +77,7 @@ fn least_wanted<'a>(
     position: Option<&Position>,
     messages: &'a List<MsgRow>,
 ) -> Option<&'a MsgRow>
-    ensures { option_copied result
-        ≡ least_wanted (criteria selection.entry) (option_copied position.entry) messages.now }
+    ensures { option_copied result ≡ least_selected selection.entry position.entry messages.now }
 {
     let mut best: Option<&MsgRow> = None;
     for message in messages {
@@ -95,8 +94,7 @@ fn chosen_or_first<'a>(
     behind: Option<&'a MsgRow>,
     messages: &'a List<MsgRow>,
 ) -> Option<&'a MsgRow>
-    ensures { option_copied result
-        ≡ chosen_or_first (criteria selection.entry) (option_copied behind.entry) messages.now }
+    ensures { option_copied result ≡ selected_or_first selection.entry behind.entry messages.now }
 {
     match behind {
         Some(message) => Some(message),
@@ -116,8 +114,7 @@ pub fn choose<'a>(
     position: Option<&Position>,
     messages: &'a List<MsgRow>,
 ) -> Option<&'a MsgRow>
-    ensures { option_copied result
-        ≡ chosen_behind (criteria selection.entry) (option_copied position.entry) messages.now }
+    ensures { option_copied result ≡ selected_behind selection.entry position.entry messages.now }
 {
     let behind = least_wanted(selection, position, messages);
     chosen_or_first(selection, behind, messages)

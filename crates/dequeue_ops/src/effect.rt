@@ -1,17 +1,14 @@
 // What a dequeue is answered, and what it does.
-ghost use Rattle.std.specs.Prelude.{◌≡◌, ◌<◌, ◌≤◌, ◌^◌, ℕ, List as Sequence, [], ◌∷◌, Some, None, All, IfOk, IfSome, false, option_copied, slice_get};
+ghost use Rattle.std.specs.Prelude.{◌≡◌, ◌<◌, ◌≤◌, ◌^◌, ℕ, [], ◌∷◌, None, All, IfOk, IfSome, false, option_copied};
 ghost use Rattle.slot_marks.specs.Marks.{IsFreeFor};
 ghost use Rattle.built_statements.specs.Built.{IsPlainDequeue};
 ghost use Rattle.queue_rows.specs.Commits.{commit_of};
-ghost use Rattle.queue_rows.specs.Dequeueing.{dequeue};
-ghost use Rattle.queue_rows.specs.Session.{Session};
 ghost use Rattle.queue_rows.specs.declared.session.Pending.TheVariants.{Remove};
-ghost use Rattle.sessions.specs.Effects.{meant, IsAnswered, ids_of};
+ghost use Rattle.sessions.specs.Effects.{IsAnswered, ids_of};
 ghost use Rattle.sessions.specs.Running.{is_addition};
-ghost use Rattle.sessions.specs.States.{AreMarks, IsStateOf};
 ghost use Rattle.sessions.specs.Within.{IsPlainTable, IsQueueWithin, IsWithin};
 ghost use Rattle.dequeue_ops.specs.Committing.{CanCommit, KeepsWithin};
-ghost use Rattle.dequeue_ops.specs.Effects.{asked, answering, showing, move_of, mark_on, locking, taking_later, taking_at_once, giving_in, delivery_of, effect_by, chosen_in, effect_in, effect_from, effect_of};
+ghost use Rattle.dequeue_ops.specs.Effects.{asked, answering, showing, move_of, mark_on, locking, taking_later, taking_at_once, giving, delivery_of, effect_of_message, chosen_in, effect_in_table, effect_from, effect_of, MeansToDequeue};
 
 use crate::availability::{Selection, own_slot};
 use crate::choose::{begin_in, choose};
@@ -145,8 +142,7 @@ fn taking_at_once(request: Request<'_>, delivery: Delivery) -> Result<Effect, Al
 
 fn giving_in(request: Request<'_>, delivery: Delivery) -> Result<Effect, AllocError>
     requires { CanCommit request.store.now request.moment }
-    ensures is { let a = asked request.entry in
-        IfOk result (λ e. e ≡ giving_in a.ask.mode a.ask.visibility a.tables a.moment delivery) }
+    ensures is { IfOk result (λ e. e ≡ giving (asked request.entry) delivery) }
     ensures within { IfOk result KeepsWithin }
 {
     match (request.ask.mode, request.ask.visibility) {
@@ -189,8 +185,7 @@ fn effect_by(
     message: Option<&MsgRow>,
 ) -> Result<Effect, AllocError>
     requires { CanCommit request.store.now request.moment }
-    ensures is { IfOk result
-        (λ e. e ≡ effect_by (asked request.entry) queue.now table.now (option_copied message.entry)) }
+    ensures is { IfOk result (λ e. e ≡ effect_of_message request.entry queue.now table.now message.entry) }
     ensures within { IfOk result KeepsWithin }
 {
     match message {
@@ -222,8 +217,7 @@ fn effect_in(
     table: Option<&TableRow>,
 ) -> Result<Effect, AllocError>
     requires { CanCommit request.store.now request.moment }
-    ensures is { IfOk result
-        (λ e. e ≡ effect_in (asked request.entry) queue.now (option_copied table.entry)) }
+    ensures is { IfOk result (λ e. e ≡ effect_in_table request.entry queue.now table.entry) }
     ensures within { IfOk result KeepsWithin }
 {
     match table {
@@ -274,11 +268,7 @@ pub fn dequeue(
     requires transaction { store.now.transaction < 2 ^ 62 }
     requires moment { moment ≤ 2 ^ 62 }
     requires unparked { session.now.parked ≡ None }
-    ensures means { IfOk result (λ e. (sessions : Sequence Session) (s : Session)
-        → AreMarks session.now.at sessions locks.now → slice_get sessions actor ≡ Some s
-        → IsStateOf session.now s
-        → dequeue store.now sessions actor s ask.now moment
-        ≡ meant e ask.now.queue ask.now.consumer moment s) }
+    ensures means { IfOk result (MeansToDequeue store.now locks.now actor session.now ask.now moment) }
     ensures answered { IfOk result (λ e. IsAnswered e.verdict) }
     ensures no_id { IfOk result (λ e. ids_of e.verdict ≡ 0) }
     ensures within { IfOk result (λ e. (n g r : ℕ) → All (IsWithin n g r) e.commit) }
