@@ -29,3 +29,6 @@ datum_text datum = compact_text (option_map_or datum_json datum null)
 -- a member of an object, behind a comma where another one stands before it
 abbrev pub member_text : Bool → List ℕ → List ℕ → List ℕ
 member_text later name value = comma_if later ++ json_text name ++ codes ":" ++ value
+
+abbrev pub member_of : Bool → List ℕ → Option Datum → List ℕ
+member_of later name datum = member_text later name (datum_text datum)

@@ -1,11 +1,16 @@
 -- The parts of a line: ids, slots, sessions and texts as JSON.
-use Rattle.std.specs.Prelude.{ℕ, ◌++◌, ◌&&◌, ◌==◌, not, nat_le, List, [], codes, decimal, Bool, Option, slice_get}
+use Rattle.std.specs.Prelude.{◌≡◌, ℕ, ◌++◌, ◌&&◌, ◌==◌, not, nat_le, List, [], codes, decimal, Bool, Option, slice_get, String, string_bytes}
 use Rattle.std.specs.Option.{option_map_or}
+use Rattle.std.specs.declared.alloc.Global.{Global}
 use Rattle.serde_json.specs.Data.{null, string}
 use Rattle.serde_json.specs.Written.{compact_text}
 use Rattle.aq_base.specs.declared.DbId.{DbId}
 use Rattle.aq_base.specs.declared.DbId.TheVariants.{Home, Away}
 use Rattle.queue_rows.specs.declared.history.SessionScript.{SessionScript}
+
+-- these bytes were put behind what was there
+abbrev pub Writes : String Global → String Global → List ℕ → Type 0
+Writes before after text = string_bytes after ≡ string_bytes before ++ text
 
 -- by this letter an id tells its database
 abbrev pub letter_of : DbId → List ℕ

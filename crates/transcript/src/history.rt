@@ -1,9 +1,8 @@
 // The text of a history.
-ghost use Rattle.std.specs.Prelude.{◌≡◌, ℕ, ◌++◌, OnOk, IfOk, option_copied, slice_get, string_bytes};
-ghost use Rattle.transcript.specs.Line.{timer_lines};
-ghost use Rattle.aq_base.specs.declared.DbId.TheVariants.{Home, Away};
-ghost use Rattle.transcript.specs.Print.{is_told, told_text, statement_of, call_line, end_line, entry_line, print};
-ghost use Rattle.transcript.specs.Told.{has_call};
+ghost use Rattle.std.specs.Prelude.{◌≡◌, OnOk, IfOk, option_copied, slice_get};
+ghost use Rattle.transcript.specs.Print.{told_text, statement_of, call_text, due_lines, end_line, entry_line, print};
+ghost use Rattle.transcript.specs.Text.{Writes};
+ghost use Rattle.transcript.specs.Told.{AreToldBy};
 
 use crate::line::{put_arrive, put_confirm, put_offer, put_timer_lines};
 use crate::reply::put_reply;
@@ -29,8 +28,7 @@ fn put_told(
     told: bool,
     reply: &Reply,
 ) -> Result<(), AllocError>
-    ensures { OnOk result (string_bytes out.new
-        ≡ string_bytes out.old ++ told_text scripts.now told reply.now) }
+    ensures { OnOk result (Writes out.old out.new (told_text scripts.now told reply.now)) }
 {
     if told {
         put_reply(out, scripts, reply)
@@ -47,8 +45,7 @@ fn put_call(
     told: bool,
     reply: &Reply,
 ) -> Result<(), AllocError>
-    ensures { OnOk result (string_bytes out.new ≡ string_bytes out.old
-        ++ call_line (slice_get scripts.now session) number (told_text scripts.now told reply.now)) }
+    ensures { OnOk result (Writes out.old out.new (call_text scripts.now session number told reply.now)) }
 {
     let Some(script) = scripts.get(session as usize) else {
         return Ok(());
@@ -64,8 +61,7 @@ fn put_call(
 }
 
 fn put_end(out: &mut String, scripts: &List<SessionScript>, session: u32) -> Result<(), AllocError>
-    ensures { OnOk result (string_bytes out.new ≡ string_bytes out.old
-        ++ end_line (slice_get scripts.now session)) }
+    ensures { OnOk result (Writes out.old out.new (end_line (slice_get scripts.now session))) }
 {
     let Some(script) = scripts.get(session as usize) else {
         return Ok(());
@@ -75,8 +71,7 @@ fn put_end(out: &mut String, scripts: &List<SessionScript>, session: u32) -> Res
 }
 
 fn put_timer(out: &mut String, entry: &Entry) -> Result<(), AllocError>
-    ensures { OnOk result (string_bytes out.new ≡ string_bytes out.old
-        ++ (timer_lines Home entry.now.home ++ timer_lines Away entry.now.away)) }
+    ensures { OnOk result (Writes out.old out.new (due_lines entry.now)) }
 {
     put_timer_lines(out, DbId::Home, &entry.home)?;
     put_timer_lines(out, DbId::Away, &entry.away)
@@ -88,9 +83,8 @@ fn put_entry(
     told: &ToldCalls,
     entry: &Entry,
 ) -> Result<(), AllocError>
-    requires { (session number : ℕ)
-        → has_call told.now session number ≡ is_told history.now.entries session number }
-    ensures { OnOk result (string_bytes out.new ≡ string_bytes out.old ++ entry_line history.now entry.now) }
+    requires { AreToldBy history.now.entries told.now }
+    ensures { OnOk result (Writes out.old out.new (entry_line history.now entry.now)) }
 {
     match &entry.step {
         Step::Call { number, reply } => {

@@ -1,6 +1,7 @@
 // The lines of what the timer and the propagator did.
-ghost use Rattle.std.specs.Prelude.{◌≡◌, [], ◌++◌, OnOk, string_bytes, codes, if◌then◌else◌};
+ghost use Rattle.std.specs.Prelude.{◌≡◌, [], OnOk, codes, if◌then◌else◌};
 ghost use Rattle.transcript.specs.Line.{timer_line, timer_lines, offer_line, cause_word, arrival_text, arrive_line, confirm_line};
+ghost use Rattle.transcript.specs.Text.{Writes};
 
 use crate::text::{Id, Slot, other_of};
 use aq_base::DbId;
@@ -9,7 +10,7 @@ use queue_rows::{Arrival, Cause, Change, MsgId, SlotRef};
 use std::alloc::AllocError;
 
 fn put_timer_line(out: &mut String, db: DbId, change: &Change) -> Result<(), AllocError>
-    ensures { OnOk result (string_bytes out.new ≡ string_bytes out.old ++ timer_line db change.now) }
+    ensures { OnOk result (Writes out.old out.new (timer_line db change.now)) }
 {
     match change {
         Change::Ready { id, slot, .. } => {
@@ -47,7 +48,7 @@ pub(crate) fn put_timer_lines(
     db: DbId,
     changes: &List<Change>,
 ) -> Result<(), AllocError>
-    ensures { OnOk result (string_bytes out.new ≡ string_bytes out.old ++ timer_lines db changes.now) }
+    ensures { OnOk result (Writes out.old out.new (timer_lines db changes.now)) }
 {
     for change in changes {
         put_timer_line(out, db, change)?;
@@ -57,7 +58,7 @@ pub(crate) fn put_timer_lines(
 
 /// Puts in the line of a slot that was taken up to be sent to a queue.
 pub(crate) fn put_offer(out: &mut String, at: SlotRef, to: &Name) -> Result<(), AllocError>
-    ensures { OnOk result (string_bytes out.new ≡ string_bytes out.old ++ offer_line at to.now) }
+    ensures { OnOk result (Writes out.old out.new (offer_line at to.now)) }
 {
     let slot = Slot::from(at);
     let to = to.as_str();
@@ -83,7 +84,7 @@ fn disabled_text(disabled: bool) -> &'static str
 }
 
 fn put_arrival(out: &mut String, from: DbId, outcome: Arrival) -> Result<(), AllocError>
-    ensures { OnOk result (string_bytes out.new ≡ string_bytes out.old ++ arrival_text from outcome) }
+    ensures { OnOk result (Writes out.old out.new (arrival_text from outcome)) }
 {
     match outcome {
         Arrival::Copied(copy) => {
@@ -104,7 +105,7 @@ fn put_arrival(out: &mut String, from: DbId, outcome: Arrival) -> Result<(), All
 
 /// Puts in the line of a slot that came to its destination.
 pub(crate) fn put_arrive(out: &mut String, at: SlotRef, outcome: Arrival) -> Result<(), AllocError>
-    ensures { OnOk result (string_bytes out.new ≡ string_bytes out.old ++ arrive_line at outcome) }
+    ensures { OnOk result (Writes out.old out.new (arrive_line at outcome)) }
 {
     let slot = Slot::from(at);
     write!(out, "arrive {slot} ")?;
@@ -114,7 +115,7 @@ pub(crate) fn put_arrive(out: &mut String, at: SlotRef, outcome: Arrival) -> Res
 
 /// Puts in the line of a slot that was sent and is done.
 pub(crate) fn put_confirm(out: &mut String, at: SlotRef) -> Result<(), AllocError>
-    ensures { OnOk result (string_bytes out.new ≡ string_bytes out.old ++ confirm_line at) }
+    ensures { OnOk result (Writes out.old out.new (confirm_line at)) }
 {
     let slot = Slot::from(at);
     write!(out, "confirm {slot}\n")

@@ -1,7 +1,8 @@
 // The text of a record and of properties, written straight into the text that it is a part of.
-ghost use Rattle.std.specs.Prelude.{◌≡◌, ◌++◌, OnOk, string_bytes, option_copied};
+ghost use Rattle.std.specs.Prelude.{◌≡◌, OnOk, option_copied};
 ghost use Rattle.serde_json.specs.Written.{comma_if};
-ghost use Rattle.transcript.specs.Record.{record_text, props_object, props_text, datum_text, member_text};
+ghost use Rattle.transcript.specs.Record.{record_text, props_object, props_text, datum_text, member_of};
+ghost use Rattle.transcript.specs.Text.{Writes};
 
 use crate::text::put_json;
 use payload_records::{Datum, List, Prop};
@@ -10,8 +11,7 @@ use std::alloc::AllocError;
 
 #[tactic(auto, using(crate::proofs::Objects::number_shown))]
 fn put_datum(out: &mut String, datum: Option<&Datum>) -> Result<(), AllocError>
-    ensures { OnOk result (string_bytes out.new
-        ≡ string_bytes out.old ++ datum_text (option_copied datum.entry)) }
+    ensures { OnOk result (Writes out.old out.new (datum_text (option_copied datum.entry))) }
 {
     match datum {
         None | Some(Datum::Null) => out.push_str("null"),
@@ -32,8 +32,7 @@ fn put_member(
     name: &str,
     datum: Option<&Datum>,
 ) -> Result<(), AllocError>
-    ensures { OnOk result (string_bytes out.new
-        ≡ string_bytes out.old ++ member_text later name.now (datum_text (option_copied datum.entry))) }
+    ensures { OnOk result (Writes out.old out.new (member_of later name.now (option_copied datum.entry))) }
 {
     out.push_str(comma_if(later))?;
     put_json(out, name)?;
@@ -43,7 +42,7 @@ fn put_member(
 
 /// Puts a record in as a JSON object: every field of its type, a null one too.
 pub(crate) fn put_record(out: &mut String, shown: &Shown) -> Result<(), AllocError>
-    ensures { OnOk result (string_bytes out.new ≡ string_bytes out.old ++ record_text shown.now) }
+    ensures { OnOk result (Writes out.old out.new (record_text shown.now)) }
 {
     out.push_str("{")?;
     let mut cells = shown.cells.cells.iter();
@@ -57,7 +56,7 @@ pub(crate) fn put_record(out: &mut String, shown: &Shown) -> Result<(), AllocErr
 }
 
 fn put_props_object(out: &mut String, props: &List<Prop>) -> Result<(), AllocError>
-    ensures { OnOk result (string_bytes out.new ≡ string_bytes out.old ++ props_object props.now) }
+    ensures { OnOk result (Writes out.old out.new (props_object props.now)) }
 {
     out.push_str("{")?;
     let mut later = false;
@@ -70,7 +69,7 @@ fn put_props_object(out: &mut String, props: &List<Prop>) -> Result<(), AllocErr
 
 /// Puts properties in as a JSON object behind a word; nothing where there are none.
 pub(crate) fn put_props(out: &mut String, props: &List<Prop>) -> Result<(), AllocError>
-    ensures { OnOk result (string_bytes out.new ≡ string_bytes out.old ++ props_text props.now) }
+    ensures { OnOk result (Writes out.old out.new (props_text props.now)) }
 {
     if props.len() == 0 {
         return Ok(());

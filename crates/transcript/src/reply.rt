@@ -1,6 +1,7 @@
 // The text of a reply: a word, and with some words more behind it.
-ghost use Rattle.std.specs.Prelude.{◌≡◌, ◌++◌, OnOk, string_bytes, unwrap_or, codes};
+ghost use Rattle.std.specs.Prelude.{◌≡◌, OnOk, unwrap_or, codes};
 ghost use Rattle.transcript.specs.Reply.{reply_word, payload_text, message_head, agent_text, enqueued_text, payload_fault_word, payload_fault_place, payload_fault_text, condition_fault_text, limit_text, reply_details, reply_text};
+ghost use Rattle.transcript.specs.Text.{Writes};
 
 use crate::record::{put_props, put_record};
 use crate::text::{Id, put_json, put_json_or_null, session_name};
@@ -45,7 +46,7 @@ fn reply_word(reply: &Reply) -> &'static str
 }
 
 fn put_payload(out: &mut String, payload: &Option<Shown>) -> Result<(), AllocError>
-    ensures { OnOk result (string_bytes out.new ≡ string_bytes out.old ++ payload_text payload.now) }
+    ensures { OnOk result (Writes out.old out.new (payload_text payload.now)) }
 {
     let Some(shown) = payload else {
         return Ok(());
@@ -62,8 +63,7 @@ fn put_message_head(
     corr: &Option<Text>,
     payload: &Option<Shown>,
 ) -> Result<(), AllocError>
-    ensures { OnOk result (string_bytes out.new
-        ≡ string_bytes out.old ++ message_head id priority retries corr.now payload.now) }
+    ensures { OnOk result (Writes out.old out.new (message_head id priority retries corr.now payload.now)) }
 {
     let id = Id(id);
     write!(out, " {id} priority {priority} retries {retries} corr ")?;
@@ -86,8 +86,7 @@ fn put_agent(
     queue: &Name,
     consumer: &Option<Name>,
 ) -> Result<(), AllocError>
-    ensures { OnOk result (string_bytes out.new
-        ≡ string_bytes out.old ++ agent_text number queue.now consumer.now) }
+    ensures { OnOk result (Writes out.old out.new (agent_text number queue.now consumer.now)) }
 {
     let queue = queue.as_str();
     let consumer = consumer_text(consumer);
@@ -107,7 +106,7 @@ fn payload_fault_word(fault: &PayloadFault) -> &'static str
 }
 
 fn put_payload_fault_place(out: &mut String, fault: &PayloadFault) -> Result<(), AllocError>
-    ensures { OnOk result (string_bytes out.new ≡ string_bytes out.old ++ payload_fault_place fault.now) }
+    ensures { OnOk result (Writes out.old out.new (payload_fault_place fault.now)) }
 {
     match fault {
         PayloadFault::UnknownField(key) => {
@@ -123,7 +122,7 @@ fn put_payload_fault_place(out: &mut String, fault: &PayloadFault) -> Result<(),
 }
 
 fn put_payload_fault(out: &mut String, fault: &PayloadFault) -> Result<(), AllocError>
-    ensures { OnOk result (string_bytes out.new ≡ string_bytes out.old ++ payload_fault_text fault.now) }
+    ensures { OnOk result (Writes out.old out.new (payload_fault_text fault.now)) }
 {
     let word = payload_fault_word(fault);
     write!(out, " {word}")?;
@@ -131,7 +130,7 @@ fn put_payload_fault(out: &mut String, fault: &PayloadFault) -> Result<(), Alloc
 }
 
 fn put_condition_fault(out: &mut String, fault: &ConditionFault) -> Result<(), AllocError>
-    ensures { OnOk result (string_bytes out.new ≡ string_bytes out.old ++ condition_fault_text fault.now) }
+    ensures { OnOk result (Writes out.old out.new (condition_fault_text fault.now)) }
 {
     match fault {
         ConditionFault::At(bytes) => write!(out, " at {bytes}"),
@@ -154,7 +153,7 @@ fn limit_text(name: LimitName) -> &'static str
 }
 
 fn put_id(out: &mut String, id: MsgId) -> Result<(), AllocError>
-    ensures { OnOk result (string_bytes out.new ≡ string_bytes out.old ++ enqueued_text id) }
+    ensures { OnOk result (Writes out.old out.new (enqueued_text id)) }
 {
     let id = Id(id);
     write!(out, " {id}")
@@ -165,8 +164,7 @@ fn put_details(
     scripts: &List<SessionScript>,
     reply: &Reply,
 ) -> Result<(), AllocError>
-    ensures { OnOk result (string_bytes out.new
-        ≡ string_bytes out.old ++ reply_details scripts.now reply.now) }
+    ensures { OnOk result (Writes out.old out.new (reply_details scripts.now reply.now)) }
 {
     match reply {
         Reply::Enqueued(id) => put_id(out, *id),
@@ -203,7 +201,7 @@ pub(crate) fn put_reply(
     scripts: &List<SessionScript>,
     reply: &Reply,
 ) -> Result<(), AllocError>
-    ensures { OnOk result (string_bytes out.new ≡ string_bytes out.old ++ reply_text scripts.now reply.now) }
+    ensures { OnOk result (Writes out.old out.new (reply_text scripts.now reply.now)) }
 {
     out.push_str(reply_word(reply))?;
     put_details(out, scripts, reply)

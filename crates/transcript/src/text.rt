@@ -1,8 +1,8 @@
 // The parts of a line: ids, slots, sessions and texts as JSON.
-ghost use Rattle.std.specs.Prelude.{◌≡◌, ◌++◌, OnOk, IfOk, option_map, string_bytes, Some};
+ghost use Rattle.std.specs.Prelude.{◌≡◌, OnOk, IfOk, option_map, Some};
 ghost use Rattle.std.specs.List.{list_all};
 ghost use Rattle.serde_json.specs.View.{view};
-ghost use Rattle.transcript.specs.Text.{letter_of, other_of, id_text, slot_text, is_plain, quoted_text, json_text, json_or_null, session_text};
+ghost use Rattle.transcript.specs.Text.{Writes, letter_of, other_of, id_text, slot_text, is_plain, quoted_text, json_text, json_or_null, session_text};
 
 use aq_base::DbId;
 use payload_records::{List, Text};
@@ -82,13 +82,13 @@ fn is_plain(text: &str) -> bool
 }
 
 fn put_quoted(out: &mut String, text: &str) -> Result<(), AllocError>
-    ensures { OnOk result (string_bytes out.new ≡ string_bytes out.old ++ quoted_text text.now) }
+    ensures { OnOk result (Writes out.old out.new (quoted_text text.now)) }
 {
     write!(out, "\"{text}\"")
 }
 
 fn put_escaped(out: &mut String, text: &str) -> Result<(), AllocError>
-    ensures { OnOk result (string_bytes out.new ≡ string_bytes out.old ++ json_text text.now) }
+    ensures { OnOk result (Writes out.old out.new (json_text text.now)) }
 {
     let alloc = *out.allocator();
     let value = Value::String(String::from_str(alloc, text)?);
@@ -100,7 +100,7 @@ fn put_escaped(out: &mut String, text: &str) -> Result<(), AllocError>
 /// is put into, unless something has to be escaped.
 #[tactic(auto, using(crate::proofs::Plain::plain_text))]
 pub(crate) fn put_json(out: &mut String, text: &str) -> Result<(), AllocError>
-    ensures { OnOk result (string_bytes out.new ≡ string_bytes out.old ++ json_text text.now) }
+    ensures { OnOk result (Writes out.old out.new (json_text text.now)) }
 {
     if is_plain(text) {
         put_quoted(out, text)
@@ -111,7 +111,7 @@ pub(crate) fn put_json(out: &mut String, text: &str) -> Result<(), AllocError>
 
 /// Puts a text in as a JSON text, or null.
 pub(crate) fn put_json_or_null(out: &mut String, text: &Option<Text>) -> Result<(), AllocError>
-    ensures { OnOk result (string_bytes out.new ≡ string_bytes out.old ++ json_or_null text.now) }
+    ensures { OnOk result (Writes out.old out.new (json_or_null text.now)) }
 {
     match text {
         Some(text) => put_json(out, text.as_str()),

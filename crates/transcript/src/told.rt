@@ -1,7 +1,6 @@
 // Which calls a history tells, noted in one walk over it.
-ghost use Rattle.std.specs.Prelude.{◌≡◌, ℕ, ◌||◌, ◌&&◌, ◌==◌, false, OnOk, IfOk};
-ghost use Rattle.transcript.specs.Print.{is_telling, is_told};
-ghost use Rattle.transcript.specs.Told.{has_call};
+ghost use Rattle.std.specs.Prelude.{◌≡◌, ℕ, false, OnOk, IfOk};
+ghost use Rattle.transcript.specs.Told.{has_call, NotesCall, NotesEntry, AreToldBy};
 
 use payload_records::List;
 use queue_rows::{Entry, Step};
@@ -31,16 +30,14 @@ impl ToldCalls {
     }
 
     fn note(&mut self, session: u32, number: u32) -> Result<(), AllocError>
-        ensures { OnOk result ((s n : ℕ) → has_call self.new s n
-            ≡ (((session == s) && (number == n)) || has_call self.old s n)) }
+        ensures { OnOk result (NotesCall session number self.old self.new) }
     {
         self.calls.insert(Call { session, number })?;
         Ok(())
     }
 
     fn note_entry(&mut self, entry: &Entry) -> Result<(), AllocError>
-        ensures { OnOk result ((s n : ℕ) → has_call self.new s n
-            ≡ (((entry.now.actor == s) && is_telling n entry.now.step) || has_call self.old s n)) }
+        ensures { OnOk result (NotesEntry entry.now self.old self.new) }
     {
         match entry.step {
             Step::Told { number } => self.note(entry.actor, number),
@@ -50,8 +47,7 @@ impl ToldCalls {
 
     /// The calls that these entries tell.
     pub(crate) fn of(alloc: Global, entries: &List<Entry>) -> Result<ToldCalls, AllocError>
-        ensures { IfOk result (λ told. (session number : ℕ)
-            → has_call told session number ≡ is_told entries.now session number) }
+        ensures { IfOk result (AreToldBy entries.now) }
     {
         let calls = entries
             .iter()
