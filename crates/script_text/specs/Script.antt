@@ -61,12 +61,15 @@ abbrev pub then_on : {A B : Type 0} → Result A ℕ → (A → Result B ℕ) �
 then_on (Ok a) f = f a
 then_on (Err n) f = Err n
 
+-- with the line that the bytes are, where they are one
+abbrev pub with_bytes : List SessionScript → List ℕ → Option (List SessionScript)
+with_bytes sessions line = option_and_then (with_line sessions) (line_of line)
+
 -- what lines make of the sessions so far, or the number of the first bad one
 unfoldable pub with_lines : ℕ → List SessionScript → List (List ℕ) → Result (List SessionScript) ℕ
 with_lines number sessions [] = Ok sessions
 with_lines number sessions (line ∷ more) =
-    then_on (or_bad number (option_and_then (with_line sessions) (line_of line)))
-    (λ next. with_lines (number + 1) next more)
+    then_on (or_bad number (with_bytes sessions line)) (λ next. with_lines (number + 1) next more)
 
 abbrev pub is_line_feed : ℕ → Bool
 is_line_feed byte = byte == 10

@@ -1,8 +1,8 @@
 // The sessions of a script, as its lines make them one after the other.
-ghost use Rattle.std.specs.Prelude.{◌≡◌, ◌≤◌, ◌<◌, [], position, length, slice_get, slice_set, option_and_then, IfSome, OnOk, OnErr, IsErrOf, Some, None, All};
+ghost use Rattle.std.specs.Prelude.{◌≡◌, ◌≤◌, ◌<◌, [], position, length, slice_get, slice_set, IfSome, OnOk, OnErr, IsErrOf, Some, None, All};
 ghost use Rattle.built_statements.specs.Built.{IsBuilt, IsShortScript};
-ghost use Rattle.script_text.specs.Line.{line_of, IsBuiltLine};
-ghost use Rattle.script_text.specs.Script.{is_of, with_session, with_statement, with_statement_at, with_statement_of, with_line, AreWithinLimits};
+ghost use Rattle.script_text.specs.Line.{IsBuiltLine};
+ghost use Rattle.script_text.specs.Script.{is_of, with_session, with_statement, with_statement_at, with_statement_of, with_line, with_bytes, AreWithinLimits};
 
 use crate::fault::LineFault;
 use crate::line::{Line, read_line};
@@ -149,9 +149,8 @@ impl Sessions {
 
     /// Takes one more line in, which is given without its line feed.
     pub fn add_line(&mut self, alloc: Global, line: &[u8]) -> Result<(), LineFault>
-        ensures ok { OnOk result (option_and_then (with_line self.old) (line_of line.now) ≡ Some self.new) }
-        ensures bad { IsErrOf result LineFault.Bad
-            → option_and_then (with_line self.old) (line_of line.now) ≡ None }
+        ensures ok { OnOk result (with_bytes self.old line.now ≡ Some self.new) }
+        ensures bad { IsErrOf result LineFault.Bad → with_bytes self.old line.now ≡ None }
     {
         let line = read_line(alloc, line)?;
         self.add(line)
