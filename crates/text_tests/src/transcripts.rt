@@ -46,25 +46,33 @@ fn entry(alloc: Global, actor: u32, step: Step) -> Entry {
     }
 }
 
-/// What a history prints whose only session, s1, asks that statement and a commit.
-fn printed(alloc: Global, asked: Statement, entries: Vec<Entry>) -> Result<Vec<u8>, Fail> {
-    let mut statements = List::new(alloc);
+/// The session s1, which asks that statement and a commit.
+fn session(alloc: Global, asked: Statement) -> Result<SessionScript, Fail> {
+    let mut statements = Vec::new(alloc);
     statements.push(asked)?;
     statements.push(Statement::Commit)?;
-    let mut scripts = List::new(alloc);
-    scripts.push(SessionScript {
+    Ok(SessionScript {
         name: name(alloc, "s1")?,
         at: DbId::Home,
-        statements,
-    })?;
-    let history = History {
+        statements: List::from_vec(statements),
+    })
+}
+
+fn history(alloc: Global, scripts: Vec<SessionScript>, entries: Vec<Entry>) -> History {
+    History {
         home: Tables::new(alloc),
         away: Tables::new(alloc),
         opening: 10,
-        scripts,
+        scripts: List::from_vec(scripts),
         entries: List::from_vec(entries),
-    };
-    Ok(print(alloc, &history)?)
+    }
+}
+
+/// What a history of that session alone prints.
+fn printed(alloc: Global, asked: Statement, entries: Vec<Entry>) -> Result<Vec<u8>, Fail> {
+    let mut scripts = Vec::new(alloc);
+    scripts.push(session(alloc, asked)?)?;
+    Ok(print(alloc, &history(alloc, scripts, entries))?)
 }
 
 fn check(rt: &impl Abort, text: Vec<u8>, want: &str) {
@@ -85,83 +93,105 @@ fn check_reply(rt: &impl Abort, alloc: Global, reply: Reply, want: &str) -> Resu
     Ok(())
 }
 
+fn plain(row: usize) -> (Reply, &'static str) {
+    match row {
+        0 => (Reply::EndOfGroup, "end-of-group"),
+        1 => (Reply::InUse, "in-use"),
+        2 => (Reply::NoRecipients, "no-recipients"),
+        3 => (Reply::ConsumerNeeded, "consumer-needed"),
+        4 => (Reply::ConsumerRefused, "consumer-refused"),
+        5 => (Reply::NotARecipient, "not-a-recipient"),
+        6 => (Reply::NoSuchMessage, "no-such-message"),
+        7 => (Reply::NoSubscriber, "no-subscriber"),
+        8 => (Reply::BadExceptionQueue, "bad-exception-queue"),
+        9 => (Reply::BadRelative, "bad-relative"),
+        10 => (Reply::TooDeep, "too-deep"),
+        11 => (Reply::Grouped, "grouped"),
+        12 => (Reply::NotGrouped, "not-grouped"),
+        13 => (Reply::Outstanding, "outstanding"),
+        14 => (Reply::NoSchedule, "no-schedule"),
+        15 => (Reply::Held(0), "held s1"),
+        16 => (Reply::Held(7), "held "),
+        17 => (Reply::Limit(LimitName::Recipients), "limit recipients"),
+        18 => (Reply::Limit(LimitName::Subscribers), "limit subscribers"),
+        _ => (Reply::Limit(LimitName::Ids), "limit ids"),
+    }
+}
+
 #[test]
 fn replies(rt: HostRuntime) -> Result<(), Fail> {
-    let rows = [
-        (Reply::EndOfGroup, "end-of-group"),
-        (Reply::InUse, "in-use"),
-        (Reply::NoRecipients, "no-recipients"),
-        (Reply::ConsumerNeeded, "consumer-needed"),
-        (Reply::ConsumerRefused, "consumer-refused"),
-        (Reply::NotARecipient, "not-a-recipient"),
-        (Reply::NoSuchMessage, "no-such-message"),
-        (Reply::NoSubscriber, "no-subscriber"),
-        (Reply::BadExceptionQueue, "bad-exception-queue"),
-        (Reply::BadRelative, "bad-relative"),
-        (Reply::TooDeep, "too-deep"),
-        (Reply::Grouped, "grouped"),
-        (Reply::NotGrouped, "not-grouped"),
-        (Reply::Outstanding, "outstanding"),
-        (Reply::NoSchedule, "no-schedule"),
-        (Reply::Held(0), "held s1"),
-        (Reply::Held(7), "held "),
-        (Reply::Limit(LimitName::Recipients), "limit recipients"),
-        (Reply::Limit(LimitName::Subscribers), "limit subscribers"),
-        (Reply::Limit(LimitName::Ids), "limit ids"),
-    ];
-    for (reply, want) in rows {
+    for row in 0..20 {
+        let (reply, want) = plain(row);
         check_reply(&rt, rt.alloc(), reply, want)?;
     }
     Ok(())
 }
 
+fn agent(alloc: Global, consumer: Option<Name>) -> Result<Reply, Fail> {
+    Ok(Reply::Agent {
+        number: 2,
+        queue: name(alloc, "q2")?,
+        consumer,
+    })
+}
+
+fn named(alloc: Global, row: usize) -> Result<(Reply, &'static str), Fail> {
+    match row {
+        0 => Ok((agent(alloc, None)?, "agent 2 q2 -")),
+        1 => Ok((agent(alloc, Some(name(alloc, "rush")?))?, "agent 2 q2 rush")),
+        2 => Ok((
+            Reply::BadCondition(ConditionFault::At(12)),
+            "bad-condition at 12",
+        )),
+        3 => {
+            let fault = ConditionFault::Field(name(alloc, "qty")?);
+            Ok((Reply::BadCondition(fault), "bad-condition field qty"))
+        }
+        4 => Ok((
+            Reply::BadCondition(ConditionFault::Kind),
+            "bad-condition kind",
+        )),
+        _ => {
+            let fault = PayloadFault::TooLong(name(alloc, "region")?);
+            Ok((Reply::Payload(fault), "payload too-long region"))
+        }
+    }
+}
+
 #[test]
 fn replies_with_names(rt: HostRuntime) -> Result<(), Fail> {
-    let alloc = rt.alloc();
-    let agents = [
-        (None, "agent 2 q2 -"),
-        (Some(name(alloc, "rush")?), "agent 2 q2 rush"),
-    ];
-    for (consumer, want) in agents {
-        let queue = name(alloc, "q2")?;
-        let reply = Reply::Agent {
-            number: 2,
-            queue,
-            consumer,
-        };
-        check_reply(&rt, alloc, reply, want)?;
+    for row in 0..6 {
+        let (reply, want) = named(rt.alloc(), row)?;
+        check_reply(&rt, rt.alloc(), reply, want)?;
     }
-    let faults = [
-        (ConditionFault::At(12), "bad-condition at 12"),
-        (
-            ConditionFault::Field(name(alloc, "qty")?),
-            "bad-condition field qty",
-        ),
-        (ConditionFault::Kind, "bad-condition kind"),
-    ];
-    for (fault, want) in faults {
-        check_reply(&rt, alloc, Reply::BadCondition(fault), want)?;
-    }
-    let fault = PayloadFault::TooLong(name(alloc, "region")?);
-    check_reply(&rt, alloc, Reply::Payload(fault), "payload too-long region")
+    Ok(())
+}
+
+fn field(alloc: Global, text: &str, kind: Kind) -> Result<Field, Fail> {
+    let name = name(alloc, text)?;
+    Ok(Field { name, kind })
+}
+
+/// The type qty num, region text.
+fn kind(alloc: Global) -> Result<RecordType, Fail> {
+    let mut fields = List::new(alloc);
+    fields.push(field(alloc, "qty", Kind::Num)?)?;
+    fields.push(field(alloc, "region", Kind::Text)?)?;
+    Ok(RecordType::of(fields)?.ok_or("no type")?)
+}
+
+fn record(alloc: Global) -> Result<Record, Fail> {
+    let mut cells = List::new(alloc);
+    cells.push(Datum::Num(-5))?;
+    cells.push(Datum::Null)?;
+    let cells = Shared::new(alloc, cells)?;
+    Ok(Record { cells })
 }
 
 /// The record {"qty":-5,"region":null} with its type.
 fn shown(alloc: Global) -> Result<Shown, Fail> {
-    let mut fields = List::new(alloc);
-    for (text, kind) in [("qty", Kind::Num), ("region", Kind::Text)] {
-        let name = name(alloc, text)?;
-        fields.push(Field { name, kind })?;
-    }
-    let Some(kind) = RecordType::of(fields)? else {
-        return Err(Fail::from("no type"));
-    };
-    let mut cells = List::new(alloc);
-    cells.push(Datum::Num(-5))?;
-    cells.push(Datum::Null)?;
-    let cells = Record {
-        cells: Shared::new(alloc, cells)?,
-    };
+    let kind = kind(alloc)?;
+    let cells = record(alloc)?;
     Ok(Shown { kind, cells })
 }
 
@@ -182,195 +212,195 @@ fn a_message(rt: HostRuntime) -> Result<(), Fail> {
     check_reply(&rt, alloc, reply, want)
 }
 
-/// An administrative statement that names a queue, or a queue and one more.
-fn admin(queue: Name, other: Name, row: usize) -> (Admin, &'static str) {
-    let (enqueue, dequeue) = (true, true);
-    let (name, to) = (other, queue);
+fn of_queue(queue: Name, row: usize) -> (Admin, &'static str) {
     match row {
-        0 => (Admin::DropTable { table: to }, "drop-table"),
-        1 => (Admin::DropQueue { queue: to }, "drop-queue"),
-        2 => {
-            let queue = to;
-            (
-                Admin::StopQueue {
-                    queue,
-                    enqueue,
-                    dequeue,
-                },
-                "stop-queue",
-            )
-        }
-        3 => {
-            let (address, rule, queue) = (None, None, to);
-            let ask = Admin::AddSubscriber {
+        0 => (Admin::DropTable { table: queue }, "drop-table"),
+        1 => (Admin::DropQueue { queue }, "drop-queue"),
+        _ => {
+            let (enqueue, dequeue) = (true, true);
+            let ask = Admin::StopQueue {
                 queue,
-                name,
-                address,
-                rule,
+                enqueue,
+                dequeue,
             };
-            (ask, "add-subscriber")
+            (ask, "stop-queue")
         }
-        4 => (
-            Admin::RemoveSubscriber { queue: to, name },
+    }
+}
+
+fn add_subscriber(queue: Name, name: Name) -> Admin {
+    Admin::AddSubscriber {
+        queue,
+        name,
+        address: None,
+        rule: None,
+    }
+}
+
+fn schedule(queue: Name, to: Name) -> Admin {
+    Admin::Schedule {
+        queue,
+        to,
+        start: None,
+        duration: None,
+        period: None,
+        latency: 60,
+    }
+}
+
+fn of_two(queue: Name, to: Name, row: usize) -> (Admin, &'static str) {
+    match row {
+        0 => (add_subscriber(queue, to), "add-subscriber"),
+        1 => (
+            Admin::RemoveSubscriber { queue, name: to },
             "remove-subscriber",
         ),
-        5 => {
-            let ask = Admin::Schedule {
-                queue: name,
-                to,
-                start: None,
-                duration: None,
-                period: None,
-                latency: 60,
-            };
-            (ask, "schedule")
-        }
-        6 => (Admin::Unschedule { queue: name, to }, "unschedule"),
-        7 => (Admin::EnableSchedule { queue: name, to }, "enable-schedule"),
-        _ => (
-            Admin::DisableSchedule { queue: name, to },
-            "disable-schedule",
-        ),
+        2 => (schedule(queue, to), "schedule"),
+        3 => (Admin::Unschedule { queue, to }, "unschedule"),
+        4 => (Admin::EnableSchedule { queue, to }, "enable-schedule"),
+        _ => (Admin::DisableSchedule { queue, to }, "disable-schedule"),
     }
+}
+
+fn admin(alloc: Global, row: usize) -> Result<(Admin, &'static str), Fail> {
+    let queue = name(alloc, "q")?;
+    if row < 3 {
+        return Ok(of_queue(queue, row));
+    }
+    Ok(of_two(queue, name(alloc, "bills")?, row - 3))
+}
+
+fn check_untold(rt: &impl Abort, alloc: Global, asked: Statement, word: &str) -> Result<(), Fail> {
+    let mut entries = Vec::new(alloc);
+    let reply = Reply::Ok;
+    entries.push(entry(alloc, 0, Step::Call { number: 1, reply }))?;
+    let want = format!(in alloc; "s1.1 {word} untold\n")?;
+    check(rt, printed(alloc, asked, entries)?, want.as_str());
+    Ok(())
 }
 
 #[test]
 fn statements(rt: HostRuntime) -> Result<(), Fail> {
     let alloc = rt.alloc();
-    for row in 0..10 {
-        let (asked, word) = match row {
-            9 => {
-                let agents = List::new(alloc);
-                (Statement::Listen(Listen { agents, wait: 0 }), "listen")
-            }
-            _ => {
-                let (ask, word) = admin(name(alloc, "q")?, name(alloc, "bills")?, row);
-                (Statement::Admin(ask), word)
-            }
-        };
-        let mut entries = Vec::new(alloc);
-        let reply = Reply::Ok;
-        entries.push(entry(alloc, 0, Step::Call { number: 1, reply }))?;
-        let want = format!(in alloc; "s1.1 {word} untold\n")?;
-        check(&rt, printed(alloc, asked, entries)?, want.as_str());
+    for row in 0..9 {
+        let (ask, word) = admin(alloc, row)?;
+        check_untold(&rt, alloc, Statement::Admin(ask), word)?;
     }
+    let agents = List::new(alloc);
+    let listen = Statement::Listen(Listen { agents, wait: 0 });
+    check_untold(&rt, alloc, listen, "listen")
+}
+
+fn failed(cause: Cause, disabled: bool) -> Arrival {
+    Arrival::Failed { cause, disabled }
+}
+
+fn arrival(row: usize) -> (SlotRef, Arrival, &'static str) {
+    match row {
+        0 => (SLOT, Arrival::Copied(4), "as a4"),
+        1 => (BACK, Arrival::Copied(9), "as h9"),
+        2 => (SLOT, Arrival::Seen, "seen"),
+        3 => (SLOT, failed(Cause::NoQueue, false), "failed no-queue"),
+        4 => (SLOT, failed(Cause::WrongKind, false), "failed wrong-kind"),
+        5 => (
+            SLOT,
+            failed(Cause::EnqueueOff, true),
+            "failed enqueue-off disabled",
+        ),
+        6 => (SLOT, failed(Cause::Payload, false), "failed payload"),
+        _ => (SLOT, failed(Cause::Limit, true), "failed limit disabled"),
+    }
+}
+
+/// What a step of the propagator prints.
+fn check_step(rt: &impl Abort, alloc: Global, step: Step, want: &str) -> Result<(), Fail> {
+    let mut entries = Vec::new(alloc);
+    entries.push(entry(alloc, 65, step))?;
+    check(rt, printed(alloc, Statement::Commit, entries)?, want);
     Ok(())
-}
-
-fn arrival(at: SlotRef, outcome: Arrival) -> Step {
-    Step::Arrive { at, outcome }
-}
-
-fn failed(cause: Cause, disabled: bool) -> Step {
-    arrival(SLOT, Arrival::Failed { cause, disabled })
 }
 
 #[test]
-fn steps_of_the_propagator(rt: HostRuntime) -> Result<(), Fail> {
+fn arrivals(rt: HostRuntime) -> Result<(), Fail> {
     let alloc = rt.alloc();
-    let to = name(alloc, "bills")?;
-    let rows = [
-        (Step::Offer { at: SLOT, to }, "offer h2.3 to bills\n"),
-        (Step::Confirm { at: SLOT }, "confirm h2.3\n"),
-        (Step::Flush, ""),
-        (arrival(SLOT, Arrival::Copied(4)), "arrive h2.3 as a4\n"),
-        (arrival(BACK, Arrival::Copied(9)), "arrive a5.1 as h9\n"),
-        (arrival(SLOT, Arrival::Seen), "arrive h2.3 seen\n"),
-        (
-            failed(Cause::NoQueue, false),
-            "arrive h2.3 failed no-queue\n",
-        ),
-        (
-            failed(Cause::WrongKind, false),
-            "arrive h2.3 failed wrong-kind\n",
-        ),
-        (
-            failed(Cause::EnqueueOff, true),
-            "arrive h2.3 failed enqueue-off disabled\n",
-        ),
-        (
-            failed(Cause::Payload, false),
-            "arrive h2.3 failed payload\n",
-        ),
-        (
-            failed(Cause::Limit, true),
-            "arrive h2.3 failed limit disabled\n",
-        ),
-    ];
-    for (step, want) in rows {
-        let mut entries = Vec::new(alloc);
-        entries.push(entry(alloc, 65, step))?;
-        check(&rt, printed(alloc, Statement::Commit, entries)?, want);
+    for row in 0..8 {
+        let (at, outcome, how) = arrival(row);
+        let slot = if row == 1 { "a5.1" } else { "h2.3" };
+        let want = format!(in alloc; "arrive {slot} {how}\n")?;
+        check_step(&rt, alloc, Step::Arrive { at, outcome }, want.as_str())?;
     }
     Ok(())
+}
+
+#[test]
+fn offers(rt: HostRuntime) -> Result<(), Fail> {
+    let alloc = rt.alloc();
+    let to = name(alloc, "bills")?;
+    check_step(
+        &rt,
+        alloc,
+        Step::Offer { at: SLOT, to },
+        "offer h2.3 to bills\n",
+    )?;
+    check_step(&rt, alloc, Step::Confirm { at: SLOT }, "confirm h2.3\n")?;
+    check_step(&rt, alloc, Step::Flush, "")
+}
+
+fn moved(alloc: Global) -> Result<Change, Fail> {
+    let queue = name(alloc, "t_e")?;
+    let (id, at) = (1, 20);
+    Ok(Change::Moved { id, queue, at })
+}
+
+fn due(alloc: Global) -> Result<Entry, Fail> {
+    let (slot, at) = (2, 20);
+    let mut due = entry(alloc, 64, Step::Timer);
+    due.home.push(Change::Expired { id: 1, slot, at })?;
+    due.home.push(moved(alloc)?)?;
+    due.away.push(Change::Ready { id: 3, slot, at })?;
+    due.away.push(Change::Purged { id: 4 })?;
+    Ok(due)
 }
 
 #[test]
 fn steps_of_the_timer(rt: HostRuntime) -> Result<(), Fail> {
-    let alloc = rt.alloc();
-    let mut due = entry(alloc, 64, Step::Timer);
-    let (id, slot, at) = (1, 2, 20);
-    due.home.push(Change::Expired { id, slot, at })?;
-    let queue = name(alloc, "t_e")?;
-    due.home.push(Change::Moved { id, queue, at })?;
-    due.away.push(Change::Ready { id: 3, slot: 1, at })?;
-    due.away.push(Change::Purged { id: 4 })?;
-    let mut entries = Vec::new(alloc);
-    entries.push(due)?;
-    let want = "timer h1.2 expired\ntimer h1 moved t_e\ntimer a3.1 ready\ntimer a4 purged\n";
-    check(&rt, printed(alloc, Statement::Commit, entries)?, want);
+    let mut entries = Vec::new(rt.alloc());
+    entries.push(due(rt.alloc())?)?;
+    let want = "timer h1.2 expired\ntimer h1 moved t_e\ntimer a3.2 ready\ntimer a4 purged\n";
+    check(&rt, printed(rt.alloc(), Statement::Commit, entries)?, want);
     Ok(())
+}
+
+fn call(number: u32) -> Step {
+    Step::Call {
+        number,
+        reply: Reply::Ok,
+    }
+}
+
+fn session_step(row: usize) -> (u32, Step) {
+    match row {
+        0 => (0, Step::Park { number: 1 }),
+        1 => (0, call(1)),
+        2 => (0, call(2)),
+        3 => (1, Step::Told { number: 1 }),
+        4 => (0, Step::Told { number: 2 }),
+        5 => (0, Step::Told { number: 3 }),
+        6 => (0, call(0)),
+        7 => (0, call(3)),
+        8 => (1, call(1)),
+        9 => (1, Step::End),
+        _ => (0, Step::End),
+    }
 }
 
 // Only a call that is told shows its reply, and a call of what was not asked shows nothing.
 #[test]
 fn calls_that_are_not_told(rt: HostRuntime) -> Result<(), Fail> {
     let alloc = rt.alloc();
-    let steps = [
-        (0, Step::Park { number: 1 }),
-        (
-            0,
-            Step::Call {
-                number: 1,
-                reply: Reply::Ok,
-            },
-        ),
-        (
-            0,
-            Step::Call {
-                number: 2,
-                reply: Reply::Ok,
-            },
-        ),
-        (1, Step::Told { number: 1 }),
-        (0, Step::Told { number: 2 }),
-        (0, Step::Told { number: 3 }),
-        (
-            0,
-            Step::Call {
-                number: 0,
-                reply: Reply::Ok,
-            },
-        ),
-        (
-            0,
-            Step::Call {
-                number: 3,
-                reply: Reply::Ok,
-            },
-        ),
-        (
-            1,
-            Step::Call {
-                number: 1,
-                reply: Reply::Ok,
-            },
-        ),
-        (1, Step::End),
-        (0, Step::End),
-    ];
     let mut entries = Vec::new(alloc);
-    for (actor, step) in steps {
+    for row in 0..11 {
+        let (actor, step) = session_step(row);
         entries.push(entry(alloc, actor, step))?;
     }
     let want = "s1.1 rollback untold\ns1.2 commit ok\ns1 end\n";
