@@ -22,5 +22,6 @@ pub trait Clock {
 
     /// The readings given are the first of the plan.
     ghost as_planned: { (clock : Self) (readings : List ℕ) (rule : ℕ → ℕ) →
-        given clock ≡ Some readings → plan clock ≡ Some rule → readings ≡ first_readings rule (length readings) };
+        given clock ≡ Some readings → plan clock ≡ Some rule
+        → readings ≡ first_readings rule (length readings) };
 }

@@ -93,8 +93,8 @@ pub fn apply(
         IsFreeIn call.entered.session m registry.old.sessions) }
     ensures database { OnOk result (database.new ≡ after_entry call.entered database.old) }
     ensures entries { OnOk result (entries.new ≡ entries.old ++ call.entered.entry ∷ []) }
-    ensures sessions { OnOk result (
-        registry.new.sessions ≡ changed_at call.entered.session (holding call.holdings) registry.old.sessions) }
+    ensures sessions { OnOk result (registry.new.sessions
+        ≡ changed_at call.entered.session (holding call.holdings) registry.old.sessions) }
     ensures err_database { OnErr result (database.new ≡ database.old) }
     ensures err_entries { OnErr result (entries.new ≡ entries.old) }
     ensures err_sessions { OnErr result (registry.new.sessions ≡ registry.old.sessions) }
@@ -134,8 +134,8 @@ pub fn apply_at(
     ensures other { let other = other_db call.entered.db in
         OnOk result (database_of other home.new away.new ≡ database_of other home.old away.old) }
     ensures entries { OnOk result (entries.new ≡ entries.old ++ call.entered.entry ∷ []) }
-    ensures sessions { OnOk result (
-        registry.new.sessions ≡ changed_at call.entered.session (holding call.holdings) registry.old.sessions) }
+    ensures sessions { OnOk result (registry.new.sessions
+        ≡ changed_at call.entered.session (holding call.holdings) registry.old.sessions) }
     ensures err_home { OnErr result (home.new ≡ home.old) }
     ensures err_away { OnErr result (away.new ≡ away.old) }
     ensures err_entries { OnErr result (entries.new ≡ entries.old) }

@@ -121,7 +121,8 @@ fn enqueue_call(alloc: Global, caller: Caller<'_>, ask: &Enqueue) -> Result<Call
     requires moment { caller.moment ≤ 2 ^ 62 }
     requires below { All (IsPendingBelow caller.database.now.next) caller.session.now.pending }
     ensures means { IfOk result (MeansFor caller.entry.session.now (λ s.
-        enqueue caller.entry.database.now.tables s ask.now caller.entry.database.now.next caller.entry.moment)) }
+        enqueue caller.entry.database.now.tables s ask.now
+        caller.entry.database.now.next caller.entry.moment)) }
     ensures fits { IfOk result (IsFit caller.entry.database.now caller.entry.session.now.pending) }
     ensures later { IfOk result IsLater }
     ensures unmarked { IfOk result (λ d. mark_of d.holdings ≡ None) }

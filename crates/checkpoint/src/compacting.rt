@@ -42,7 +42,8 @@ pub fn compact<D: Disk>(
         → Rests D.seen D.is_image D.calls journal m
         → CompactLeaves m body.now
         (D.calls journal.disk) (D.calls (disk_after result)) (D.is_image (disk_after result))) }
-    ensures earlier { KeepsEarlier (D.calls journal.disk) (D.is_image journal.disk) (D.is_image (disk_after result)) }
+    ensures earlier { KeepsEarlier (D.calls journal.disk) (D.is_image journal.disk)
+        (D.is_image (disk_after result)) }
     ensures later { D.calls journal.disk ≤ D.calls (disk_after result) }
     ensures fine { OnOk result (D.faults (disk_after result) ≡ D.faults journal.disk) }
     ensures fault { IfErr result (λ e. IsFault e → Rose (D.faults journal.disk) (D.faults (disk_in e))) }

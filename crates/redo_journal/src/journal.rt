@@ -203,7 +203,8 @@ impl<D: Disk> Journal<D> {
             → Rests D.seen D.is_image D.calls self.old m
             → AppendLeaves m self.old.queued
             (D.calls self.old.disk) (D.calls self.new.disk) (D.is_image self.new.disk)) }
-        ensures earlier { KeepsEarlier (D.calls self.old.disk) (D.is_image self.old.disk) (D.is_image self.new.disk) }
+        ensures earlier { KeepsEarlier (D.calls self.old.disk) (D.is_image self.old.disk)
+            (D.is_image self.new.disk) }
         ensures later { D.calls self.old.disk ≤ D.calls self.new.disk }
         ensures number { D.calls self.new.disk ≤ D.calls self.old.disk + 4 }
         ensures cause { self.old.failed_at ≡ None

@@ -38,7 +38,8 @@ pub(crate) fn load<D: Disk>(alloc: Global, disk: &mut D) -> Result<Vec<u8>, Load
     ensures limit { IfOk result (λ v. length v.items ≤ 2 ^ 62) }
     ensures seen { D.seen disk.new ≡ D.seen disk.old }
     ensures crash { SameNow D.is_image D.calls disk.old disk.new }
-    ensures any_moment { CrashLeaves D.seen D.is_image D.calls disk.old disk.new (λ bytes image. image ≡ bytes) }
+    ensures any_moment { CrashLeaves D.seen D.is_image D.calls disk.old disk.new
+        (λ bytes image. image ≡ bytes) }
     ensures earlier { KeepsEarlier (D.calls disk.old) (D.is_image disk.old) (D.is_image disk.new) }
     ensures later { D.calls disk.old ≤ D.calls disk.new }
     ensures rise { D.faults disk.old ≤ D.faults disk.new }
