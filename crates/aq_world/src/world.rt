@@ -33,6 +33,21 @@ const CLOSING: u32 = 66;
 /// The actors from this number on are the timer and the propagator.
 const TIMER: u32 = 64;
 
+/// A statement is called, its commit is made durable, and it is told.
+const ENTRIES_A_STATEMENT: usize = 3;
+
+// The history is the longest list of a run, and the scripts tell how long it grows: it has that room from the start, and never moves.
+fn room_for_entries(alloc: Global, scripts: &List<SessionScript>) -> Result<List<Entry>, AllocError>
+    ensures { IfOk result (λ entries. entries ≡ []) }
+{
+    let mut count: usize = 0;
+    for script in scripts {
+        let statements = script.statements.len();
+        count = count.saturating_add(statements.saturating_mul(ENTRIES_A_STATEMENT));
+    }
+    Ok(List::from_vec(Vec::with_capacity(alloc, count.saturating_add(scripts.len()))?))
+}
+
 /// The state of a run: the two databases, the sessions with what they hold, the moment, and the history so far. Contracts see the
 /// world of the definitions.
 #[derive(Drop)]
@@ -370,6 +385,7 @@ impl World {
         ensures { IfOk result (λ w. w ≡ opened empty_tables empty_tables scripts) }
     {
         let registry = SessionRegistry::fresh(alloc, &scripts)?;
+        let entries = room_for_entries(alloc, &scripts)?;
         Ok(World {
             alloc,
             history: History {
@@ -377,7 +393,7 @@ impl World {
                 away: Tables::new(alloc),
                 opening: 0,
                 scripts,
-                entries: List::new(alloc),
+                entries,
             },
             home: RunDatabase::new(alloc),
             away: RunDatabase::new(alloc),

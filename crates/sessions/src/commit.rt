@@ -1,5 +1,5 @@
 // What a session commits.
-ghost use Rattle.std.specs.Prelude.{◌≡◌, ◌<◌, ◌≤◌, ◌^◌, All, IfOk, length};
+ghost use Rattle.std.specs.Prelude.{◌≡◌, ◌<◌, ◌≤◌, ◌^◌, [], All, IfOk, length};
 ghost use Rattle.std.specs.List.{list_any};
 ghost use Rattle.queue_rows.specs.Commits.{commit_of};
 ghost use Rattle.sessions.specs.Numbers.{IsLowest, IsPendable};
@@ -44,6 +44,13 @@ fn queues_for(tables: &Tables, pending: &List<Pending>) -> Result<List<QueueRow>
     }
 }
 
+// A change is large, and mostly one comes of a commit: so there is room for as many as there will be, and for no more.
+fn room_for(pending: &List<Pending>) -> Result<List<Change>, AllocError>
+    ensures { IfOk result (λ changes. changes ≡ []) }
+{
+    Ok(List::from_vec(Vec::with_capacity(pending.allocator(), pending.len())?))
+}
+
 fn changes_from(
     tables: &Tables,
     stamp: Stamp,
@@ -58,7 +65,7 @@ fn changes_from(
 {
     let alloc = pending.allocator();
     let mut queues = queues_for(tables, pending)?;
-    let mut changes = List::new(alloc);
+    let mut changes = room_for(pending)?;
     for pending in pending {
         let change = change_of(alloc, tables, &queues, stamp, pending)?;
         lower_by(tables, &mut queues, &change);

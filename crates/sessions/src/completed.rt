@@ -34,7 +34,7 @@ fn slot_at_commit(slot: &SlotRow, moment: u64) -> Result<SlotRow, AllocError>
 fn slots_at_commit(slots: &List<SlotRow>, moment: u64) -> Result<List<SlotRow>, AllocError>
     ensures { IfOk result (λ new. new ≡ map (slot_at_commit moment) slots.now) }
 {
-    let mut new = List::new(slots.allocator());
+    let mut new = List::from_vec(Vec::with_capacity(slots.allocator(), slots.len())?);
     for slot in slots {
         new.push(slot_at_commit(slot, moment)?)?;
     }
