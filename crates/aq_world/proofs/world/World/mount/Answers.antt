@@ -12,10 +12,10 @@ invariant_of-result c =
     let d = opened_database empty_tables in
     let ss = c.in_ok-registry.registry.sessions in
     record {
-      sound = subst (λ home. IsSound home c.new-5.result ss 0 0) (sym c.new-4.ensures) (subst (λ away. IsSound d away ss 0 0) (sym c.new-5.ensures) (subst (λ x. IsSound d d x 0 0) (sym c.in_ok-registry.ensures) (sound_opened c.args.scripts c.requires.count)));
+      sound = subst (λ home. IsSound home c.new-4.result ss 0 0) (sym c.new-3.ensures) (subst (λ away. IsSound d away ss 0 0) (sym c.new-4.ensures) (subst (λ x. IsSound d d x 0 0) (sym c.in_ok-registry.ensures) (sound_opened c.args.scripts c.requires.count)));
       built = c.requires.built;
       short = c.requires.short;
-      calls = subst (All HasNoCalls) (sym c.new-3.ensures) (All-nil HasNoCalls);
+      calls = subst (All HasNoCalls) (sym c.in_ok-entries.ensures) (All-nil HasNoCalls);
       home_empty = c.new.ensures;
       away_empty = c.new-2.ensures;
       begun = refl;
