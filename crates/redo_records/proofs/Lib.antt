@@ -1,0 +1,11 @@
+pub mod CommitLaws
+pub mod Exact
+pub mod Fields
+pub mod InTurn
+pub mod Loops
+pub mod Pieces
+pub mod RowLaws
+pub mod Septets
+pub mod Sorts
+pub mod Texts
+pub mod Whole

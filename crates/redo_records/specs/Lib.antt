@@ -1,0 +1,6 @@
+pub mod Gives
+pub mod Laws
+pub mod Reading
+pub mod Recovered
+pub mod Spelled
+pub mod Spelling
