@@ -1,5 +1,5 @@
 -- What the calls of a disk do to its bytes, and what a crash may leave of them.
-use Rattle.std.specs.Prelude.{◌≡◌, ◌↔◌, ℕ, ◌+◌, ◌-◌, ◌^◌, ◌≤◌, min, max, List, ◌++◌, length, take, drop, Option, Some, None}
+use Rattle.std.specs.Prelude.{◌≡◌, ◌<◌, ◌⊎◌, ◌↔◌, ℕ, ◌+◌, ◌-◌, ◌^◌, ◌≤◌, min, max, List, ◌++◌, length, take, drop, Option, Some, None}
 use Rattle.std.specs.Option.{ForSome}
 
 -- the bytes with others written from a place on
@@ -25,6 +25,14 @@ pub record Torn (at n : ℕ) (old new : List ℕ) : Type 0 where
   pub after : drop (at + n) new ≡ drop (at + n) old
   pub no_shorter : length old ≤ length new
   pub no_longer : length new ≤ max (length old) (at + n)
+
+-- a disk that told bytes tells bytes that such a write may have left
+abbrev pub TellsTorn : ℕ → ℕ → Option (List ℕ) → Option (List ℕ) → Type 0
+TellsTorn at n old new = ForSome old (λ was. (bytes : List ℕ) × (new ≡ Some bytes) × Torn at n was bytes)
+
+-- a write past the limit, and one for which there is no number
+abbrev pub IsRefused : ℕ → ℕ → ℕ → Type 0
+IsRefused at n calls = (2 ^ 62 < at + n) ⊎ (calls ≡ 2 ^ 64 - 1)
 
 -- What may be left is this and nothing else.
 abbrev pub Only : List ℕ → (List ℕ → Type 0) → Type 0
@@ -57,6 +65,10 @@ IsSettled seen images = ForSome seen (λ bytes. Only bytes images)
 -- each image of each call number from one to another has P
 abbrev pub EachImage : ℕ → ℕ → (ℕ → List ℕ → Type 0) → (List ℕ → Type 0) → Type 0
 EachImage from to images P = (call : ℕ) → from ≤ call → call ≤ to → (image : List ℕ) → images call image → P image
+
+-- each image of each call number from one disk on to the other is what such a write may leave of the bytes
+abbrev pub TearsAtMost : {D : Type 0} → (D → ℕ → List ℕ → Type 0) → (D → ℕ) → ℕ → ℕ → List ℕ → D → D → Type 0
+TearsAtMost is_image calls at n bytes old new = EachImage (calls old) (calls new) (is_image new) (Torn at n bytes)
 
 -- what is not told is not told to be these bytes
 pub untold : (bytes : List ℕ) → None ≡ Some bytes → ⊥

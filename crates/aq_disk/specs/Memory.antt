@@ -1,5 +1,5 @@
 -- A disk in memory by what it keeps.
-use Rattle.std.specs.Prelude.{◌≡◌, ◌⊎◌, ◌↔◌, ◌<◌, ◌+◌, ◌-◌, ◌^◌, ◌++◌, ◌∷◌, [], ℕ, List, length, Bool, true, false}
+use Rattle.std.specs.Prelude.{◌≡◌, ◌⊎◌, ◌↔◌, ◌<◌, ◌+◌, ◌-◌, ◌^◌, ◌++◌, ◌∷◌, [], ℕ, List, length, Bool, true, false, Option}
 use Rattle.aq_disk.specs.Disk.{next_call}
 use Rattle.aq_disk.specs.Held.{SameHeld}
 use Rattle.aq_disk.specs.Kept.{up_to, image_after, AddsWrite}
@@ -24,6 +24,10 @@ image_of disk call fill = image_after fill (start_of disk) (up_to call (kept_of 
 -- a call is set to fail
 abbrev pub FailsAt : MemoryDisk → ℕ → Type 0
 FailsAt disk call = IsSetToFail disk.failing.items disk.fuse call
+
+-- its calls of these numbers fail, and those past the fuse, and no other
+abbrev pub IsSetTo : MemoryDisk → List ℕ → Option ℕ → Type 0
+IsSetTo disk failing fuse = (call : ℕ) → FailsAt disk call ↔ IsSetToFail failing fuse call
 
 abbrev pub next_number : MemoryDisk → ℕ
 next_number disk = next_call disk.counts.calls

@@ -2,7 +2,7 @@
 ghost use Rattle.std.specs.Prelude.{◌≡◌, ◌<◌, ◌≤◌, ◌+◌, ◌-◌, ◌^◌, ◌⊎◌, List, ℕ, Option, Some, None, length, option_map, IfOk, OnOk, OnErr, IsErr, is_err, Bool};
 ghost use Rattle.std.specs.Option.{ForSome};
 ghost use Rattle.aq_disk.specs.Causes.{HasCause};
-ghost use Rattle.aq_disk.specs.Disk.{after_write, count_read, after_read, next_call, Torn, Only, Follows, Allows, Keeps, SameImages, KeepsEarlier};
+ghost use Rattle.aq_disk.specs.Disk.{after_write, count_read, after_read, next_call, Torn, TellsTorn, IsRefused, Only, Follows, Allows, Keeps, SameImages, KeepsEarlier};
 
 /// A call on a disk failed. Its count of faults has risen.
 #[derive(Clone, Copy, Debug, PartialEq, Eq)]
@@ -30,8 +30,8 @@ pub trait Disk {
     /// How many of them failed. It never falls, and at 2^64 - 1 it stands still.
     ghost faults: { Self → ℕ };
 
-    /// What else a disk says of a call: of a `len` and a `read`, of a write, and of a sync. The disks before and
-    /// after it are told, and whether it failed.
+    /// What else a disk says of a call: of a `len` and a `read`, of a write, and of a sync. The disks before and after
+    /// it are told, and whether it failed.
     ghost says_of_look: { Self → Self → Bool → Type 0 } = { λ _ _ _. Unit {0} };
 
     ghost says_of_write: { Self → Self → ℕ → List ℕ → Bool → Type 0 } = { λ _ _ _ _ _. Unit {0} };
@@ -53,8 +53,10 @@ pub trait Disk {
     /// Reads from a place on, and answers how many bytes it read: fewer than asked only at the end.
     /// After `Failed` the buffer may hold anything.
     fn read(&mut self, at: u64, into: &mut [u8]) -> Result<usize, Failed>
-        ensures count { IfOk result (λ n. ForSome (seen self.old) (λ bytes. n ≡ count_read at into.old bytes)) }
-        ensures read { OnOk result (ForSome (seen self.old) (λ bytes. into.new ≡ after_read at into.old bytes)) }
+        ensures count { IfOk result
+            (λ n. ForSome (seen self.old) (λ bytes. n ≡ count_read at into.old bytes)) }
+        ensures read { OnOk result
+            (ForSome (seen self.old) (λ bytes. into.new ≡ after_read at into.old bytes)) }
         ensures bound { IfOk result (λ n. n ≤ length into.old) }
         ensures bytes { seen self.new ≡ seen self.old }
         ensures crash { SameImages (is_image self.old (calls self.old)) (is_image self.new (calls self.new)) }
@@ -69,16 +71,20 @@ pub trait Disk {
     fn write_at(&mut self, at: u64, from: &[u8]) -> Result<(), Failed>
         requires { ForSome (seen self.old) (λ bytes. at ≤ length bytes) }
         ensures bytes { OnOk result (seen self.new ≡ option_map (after_write at from.now) (seen self.old)) }
-        ensures torn { OnErr result (ForSome (seen self.old) (λ was. (bytes : List ℕ) × (seen self.new ≡ Some bytes) × Torn at (length from.now) was bytes)) }
+        ensures torn { OnErr result (TellsTorn at (length from.now) (seen self.old) (seen self.new)) }
         ensures silent { seen self.old ≡ None → seen self.new ≡ None }
 
         // Until a sync a crash leaves an image from before with any bytes in the range, and each of these.
-        ensures crash { Follows (Torn at (length from.now)) (is_image self.old (calls self.old)) (is_image self.new (calls self.new)) }
-        ensures any_bytes { OnOk result (Allows (Torn at (length from.now)) (is_image self.old (calls self.old)) (is_image self.new (calls self.new))) }
+        ensures crash { Follows (Torn at (length from.now))
+            (is_image self.old (calls self.old)) (is_image self.new (calls self.new)) }
+        ensures any_bytes { OnOk result (Allows (Torn at (length from.now))
+            (is_image self.old (calls self.old)) (is_image self.new (calls self.new))) }
         ensures lost { Keeps (is_image self.old (calls self.old)) (is_image self.new (calls self.new)) }
 
         // It fails, and writes nothing, past the limit and at the end of the call numbers.
-        ensures refused { (2 ^ 62 < at + length from.now) ⊎ (calls self.old ≡ 2 ^ 64 - 1) → IsErr result × (seen self.new ≡ seen self.old) × SameImages (is_image self.old (calls self.old)) (is_image self.new (calls self.new)) }
+        ensures refused { IsRefused at (length from.now) (calls self.old)
+            → IsErr result × (seen self.new ≡ seen self.old)
+            × SameImages (is_image self.old (calls self.old)) (is_image self.new (calls self.new)) }
 
         ensures earlier { KeepsEarlier (calls self.old) (is_image self.old) (is_image self.new) }
         ensures number { calls self.new ≡ next_call (calls self.old) }
@@ -87,9 +93,11 @@ pub trait Disk {
 
     /// After it, a crash leaves what a read gives.
     fn sync(&mut self) -> Result<(), Failed>
-        ensures durable { OnOk result (ForSome (seen self.old) (λ bytes. Only bytes (is_image self.new (calls self.new)))) }
+        ensures durable { OnOk result
+            (ForSome (seen self.old) (λ bytes. Only bytes (is_image self.new (calls self.new)))) }
         ensures bytes { seen self.new ≡ seen self.old }
-        ensures crash { OnErr result (SameImages (is_image self.old (calls self.old)) (is_image self.new (calls self.new))) }
+        ensures crash { OnErr result
+            (SameImages (is_image self.old (calls self.old)) (is_image self.new (calls self.new))) }
         ensures earlier { KeepsEarlier (calls self.old) (is_image self.old) (is_image self.new) }
         ensures number { calls self.new ≡ next_call (calls self.old) }
         ensures at_end { calls self.old ≡ 2 ^ 64 - 1 → IsErr result }
@@ -105,7 +113,8 @@ pub trait Disk {
         ensures { result ≡ faults self.now };
 
     /// A disk as it reads is one of its images.
-    ghost reads_an_image: { (disk : Self) (bytes : List ℕ) → seen disk ≡ Some bytes → is_image disk (calls disk) bytes };
+    ghost reads_an_image: { (disk : Self) (bytes : List ℕ)
+        → seen disk ≡ Some bytes → is_image disk (calls disk) bytes };
 
     /// A told length is within the limit.
     ghost told_limit: { (disk : Self) (bytes : List ℕ) → seen disk ≡ Some bytes → length bytes ≤ 2 ^ 62 };

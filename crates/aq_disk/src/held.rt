@@ -63,7 +63,8 @@ impl Held {
 
     /// Keeps a sync under a number.
     pub fn sync(&mut self, call: u64) -> Result<(), AllocError>
-        ensures kept { OnOk result (self.new.kept.items ≡ self.old.kept.items ++ record { call = call; step = Sync } ∷ []) }
+        ensures kept { OnOk result
+            (self.new.kept.items ≡ self.old.kept.items ++ record { call = call; step = Sync } ∷ []) }
         ensures bytes { self.new.bytes ≡ self.old.bytes }
         ensures start { self.new.start ≡ self.old.start }
         ensures err { OnErr result (SameHeld self.old self.new) }
@@ -75,8 +76,10 @@ impl Held {
 
     /// The bytes at the last sync up to a number, with each range that was written since as the fill says.
     pub fn image(&self, alloc: Global, call: u64, fill: Fill) -> Result<Vec<u8>, AllocError>
-        ensures bytes { IfOk result (λ image. image.items ≡ image_after fill self.now.start.items (up_to call self.now.kept.items)) }
-        ensures image { IfOk result (λ image. IsImageAfter self.now.start.items (up_to call self.now.kept.items) image.items) }
+        ensures bytes { IfOk result (λ image.
+            image.items ≡ image_after fill self.now.start.items (up_to call self.now.kept.items)) }
+        ensures image { IfOk result (λ image.
+            IsImageAfter self.now.start.items (up_to call self.now.kept.items) image.items) }
     {
         let (until, since) = split_at_sync(up_to(&self.kept, call));
         let mut image = self.start.to_vec(alloc)?;

@@ -26,12 +26,11 @@ impl MemoryDisk {
     ghost use Rattle.aq_disk.specs.Disk.{IsSettled, next_call, after_write};
     ghost use Rattle.aq_disk.specs.Kept.{AddsWrite};
     ghost use Rattle.aq_disk.specs.Held.{SameHeld};
-    ghost use Rattle.aq_disk.specs.Memory.{image_of, start_of, kept_of, FailsAt, SamePlan};
-    ghost use Rattle.aq_disk.specs.Plan.{IsSetToFail};
+    ghost use Rattle.aq_disk.specs.Memory.{image_of, start_of, kept_of, FailsAt, IsSetTo, SamePlan};
     ghost use Rattle.aq_disk.specs.declared.kept.Fill.TheVariants.{New};
 
-    /// A disk of these bytes, all of them synced. Its calls of the listed numbers fail, and all calls past the
-    /// fuse. A growth that finds no memory is a fault. Bytes past the limit of a disk find no memory.
+    /// A disk of these bytes, all of them synced. Its calls of the listed numbers fail, and all calls past the fuse.
+    /// A growth that finds no memory is a fault. Bytes past the limit of a disk find no memory.
     pub fn of(
         alloc: Global,
         bytes: Vec<u8>,
@@ -40,8 +39,9 @@ impl MemoryDisk {
     ) -> Result<MemoryDisk, AllocError>
         ensures bytes { IfOk result (λ disk. ⟦<MemoryDisk as Disk>⟧.seen disk ≡ Some bytes.items) }
         ensures start { IfOk result (λ disk. (start_of disk ≡ bytes.items) × (kept_of disk ≡ [])) }
-        ensures settled { IfOk result (λ disk. IsSettled (⟦<MemoryDisk as Disk>⟧.seen disk) (⟦<MemoryDisk as Disk>⟧.is_image disk 0)) }
-        ensures plan { IfOk result (λ disk. (call : ℕ) → FailsAt disk call ↔ IsSetToFail failing.items fuse call) }
+        ensures settled { IfOk result (λ disk.
+            IsSettled (⟦<MemoryDisk as Disk>⟧.seen disk) (⟦<MemoryDisk as Disk>⟧.is_image disk 0)) }
+        ensures plan { IfOk result (λ disk. IsSetTo disk failing.items fuse) }
         ensures calls { IfOk result (λ disk. ⟦<MemoryDisk as Disk>⟧.calls disk ≡ 0) }
         ensures faults { IfOk result (λ disk. ⟦<MemoryDisk as Disk>⟧.faults disk ≡ 0) }
     {
@@ -64,7 +64,8 @@ impl MemoryDisk {
         requires { call ≤ ⟦<MemoryDisk as Disk>⟧.calls self.now }
         ensures bytes { IfOk result (λ image. image.items ≡ image_of self.now call fill) }
         ensures image { IfOk result (λ image. ⟦<MemoryDisk as Disk>⟧.is_image self.now call image.items) }
-        ensures read { IfOk result (λ image. fill ≡ New → call ≡ ⟦<MemoryDisk as Disk>⟧.calls self.now → ⟦<MemoryDisk as Disk>⟧.seen self.now ≡ Some image.items) }
+        ensures read { IfOk result (λ image. fill ≡ New → call ≡ ⟦<MemoryDisk as Disk>⟧.calls self.now
+            → ⟦<MemoryDisk as Disk>⟧.seen self.now ≡ Some image.items) }
     {
         self.held.image(alloc, call, fill)
     }
@@ -100,8 +101,10 @@ impl MemoryDisk {
         requires { at ≤ length self.old.held.bytes.items }
         ensures number { self.new.counts.calls ≡ self.old.counts.calls }
         ensures limit { OnOk result (at + length from.now ≤ 2 ^ 62) }
-        ensures kept { OnOk result (AddsWrite self.old.held.kept.items self.new.held.kept.items self.old.counts.calls at from.now) }
-        ensures bytes { OnOk result (self.new.held.bytes.items ≡ after_write at from.now self.old.held.bytes.items) }
+        ensures kept { OnOk result (AddsWrite
+            self.old.held.kept.items self.new.held.kept.items self.old.counts.calls at from.now) }
+        ensures bytes { OnOk result
+            (self.new.held.bytes.items ≡ after_write at from.now self.old.held.bytes.items) }
         ensures start { self.new.held.start ≡ self.old.held.start }
         ensures plan { SamePlan self.old self.new }
         ensures err { OnErr result (SameHeld self.old.held self.new.held) }
