@@ -44,11 +44,17 @@ fn queues_for(tables: &Tables, pending: &List<Pending>) -> Result<List<QueueRow>
     }
 }
 
-// A change is large, and mostly one comes of a commit: so there is room for as many as there will be, and for no more.
+// A change is large, and mostly few come of a commit: so there is room for them and for what a removal may settle, and for no more.
 fn room_for(pending: &List<Pending>) -> Result<List<Change>, AllocError>
     ensures { IfOk result (λ changes. changes ≡ []) }
 {
-    Ok(List::from_vec(Vec::with_capacity(pending.allocator(), pending.len())?))
+    let mut count = pending.len();
+    for one in pending {
+        if let Pending::Remove { .. } = one {
+            count = count.saturating_add(1);
+        }
+    }
+    Ok(List::from_vec(Vec::with_capacity(pending.allocator(), count)?))
 }
 
 fn changes_from(
