@@ -187,10 +187,22 @@ fn properties_are_read(rt: HostRuntime) -> Result<(), Fail> {
     for (text, want) in rows {
         assert_eq!(rt; props_told(alloc, text)?.as_str(), want);
     }
+    Ok(())
+}
+
+#[test]
+fn properties_have_limits(rt: HostRuntime) -> Result<(), Fail> {
+    let alloc = rt.alloc();
     let most = many_members(alloc, 32, "null")?;
     let over = many_members(alloc, 33, "null")?;
     assert_eq!(rt; props_told(alloc, most.as_str())?.as_str(), "");
     assert_eq!(rt; props_told(alloc, over.as_str())?.as_str(), "Bad");
+    Ok(())
+}
+
+#[test]
+fn texts_of_properties_have_a_limit(rt: HostRuntime) -> Result<(), Fail> {
+    let alloc = rt.alloc();
     let most = long_text(alloc, 4000)?;
     let over = long_text(alloc, 4001)?;
     assert_eq!(rt; props_told(alloc, most.as_str())?.len(), 4010);
