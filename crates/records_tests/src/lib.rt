@@ -1,0 +1,5 @@
+//! Tests of the bytes of commits.
+#![tactic(auto)]
+
+#[cfg(test)]
+mod commits;
