@@ -33,17 +33,21 @@ fn name(alloc: Global, text: &str) -> Result<Name, Fail> {
     Ok(Name::read(alloc, text)?)
 }
 
-fn entry(alloc: Global, actor: u32, step: Step) -> Entry {
+fn entry_with(actor: u32, step: Step, home: List<Change>, away: List<Change>) -> Entry {
     Entry {
         actor,
         moment: 10,
         readings: 1,
         home_calls: 0,
         away_calls: 0,
-        home: List::new(alloc),
-        away: List::new(alloc),
+        home,
+        away,
         step,
     }
+}
+
+fn entry(alloc: Global, actor: u32, step: Step) -> Entry {
+    entry_with(actor, step, List::new(alloc), List::new(alloc))
 }
 
 /// The session s1, which asks that statement and a commit.
@@ -270,12 +274,21 @@ fn admin(alloc: Global, row: usize) -> Result<(Admin, &'static str), Fail> {
     Ok(of_two(queue, name(alloc, "bills")?, row - 3))
 }
 
-fn check_untold(rt: &impl Abort, alloc: Global, asked: Statement, word: &str) -> Result<(), Fail> {
+fn one_call(alloc: Global) -> Result<Vec<Entry>, Fail> {
     let mut entries = Vec::new(alloc);
-    let reply = Reply::Ok;
-    entries.push(entry(alloc, 0, Step::Call { number: 1, reply }))?;
+    entries.push(entry(alloc, 0, call(1)))?;
+    Ok(entries)
+}
+
+fn untold(alloc: Global, asked: Statement) -> Result<Vec<u8>, Fail> {
+    let entries = one_call(alloc)?;
+    printed(alloc, asked, entries)
+}
+
+fn check_untold(rt: &impl Abort, alloc: Global, asked: Statement, word: &str) -> Result<(), Fail> {
+    let text = untold(alloc, asked)?;
     let want = format!(in alloc; "s1.1 {word} untold\n")?;
-    check(rt, printed(alloc, asked, entries)?, want.as_str());
+    check(rt, text, want.as_str());
     Ok(())
 }
 
@@ -352,14 +365,26 @@ fn moved(alloc: Global) -> Result<Change, Fail> {
     Ok(Change::Moved { id, queue, at })
 }
 
-fn due(alloc: Global) -> Result<Entry, Fail> {
+fn due_at_home(alloc: Global) -> Result<List<Change>, Fail> {
     let (slot, at) = (2, 20);
-    let mut due = entry(alloc, 64, Step::Timer);
-    due.home.push(Change::Expired { id: 1, slot, at })?;
-    due.home.push(moved(alloc)?)?;
-    due.away.push(Change::Ready { id: 3, slot, at })?;
-    due.away.push(Change::Purged { id: 4 })?;
-    Ok(due)
+    let mut changes = List::new(alloc);
+    changes.push(Change::Expired { id: 1, slot, at })?;
+    changes.push(moved(alloc)?)?;
+    Ok(changes)
+}
+
+fn due_at_away(alloc: Global) -> Result<List<Change>, Fail> {
+    let (slot, at) = (2, 20);
+    let mut changes = List::new(alloc);
+    changes.push(Change::Ready { id: 3, slot, at })?;
+    changes.push(Change::Purged { id: 4 })?;
+    Ok(changes)
+}
+
+fn due(alloc: Global) -> Result<Entry, Fail> {
+    let home = due_at_home(alloc)?;
+    let away = due_at_away(alloc)?;
+    Ok(entry_with(64, Step::Timer, home, away))
 }
 
 #[test]
