@@ -3,57 +3,93 @@ use aq_base::{
     Failed, MemorySink, MemorySource, ReadFault, ReaderSource, Sink, SinkFault, Source, Words,
     WriterSink, read_up_to, write_all,
 };
+use std::alloc::{AllocError, Global};
 use std::io;
-use std::test::Fail;
+
+// ---- words
+
+const ARGUMENTS: [&[u8]; 4] = [b"run", b"--serial", b"\xff", b""];
+
+fn arguments(alloc: Global) -> Result<Vec<Vec<u8>>, AllocError> {
+    let mut arguments = Vec::new(alloc);
+    for argument in ARGUMENTS {
+        arguments.push(argument.to_vec(alloc)?)?;
+    }
+    Ok(arguments)
+}
+
+fn words(alloc: Global) -> Result<Words, AllocError> {
+    let arguments = arguments(alloc)?;
+    Words::of_arguments(alloc, arguments.as_slice())
+}
+
+fn are(words: &Words, wanted: &[&str]) -> bool {
+    words.count() == wanted.len()
+        && words.get(wanted.len()).is_none()
+        && wanted
+            .iter()
+            .enumerate()
+            .all(|(at, word)| words.get(at) == Some(*word))
+}
 
 #[test]
-fn words_are_those_of_the_arguments(rt: HostRuntime) -> Result<(), Fail> {
-    let given: [&[u8]; 4] = [b"run", b"--serial", b"\xff", b""];
-    let mut arguments = Vec::new(rt.alloc());
-    for argument in given {
-        arguments.push(argument.to_vec(rt.alloc())?)?;
-    }
-    let mut words = Words::of_arguments(rt.alloc(), arguments.as_slice())?;
+fn words_are_those_of_the_arguments(rt: HostRuntime) -> Result<(), AllocError> {
+    let mut words = words(rt.alloc())?;
     words.push("é")?;
-    assert_eq!(rt; words.count(), 5);
-    for (at, want) in ["run", "--serial", "", "", "é"].iter().enumerate() {
-        assert_eq!(rt; words.get(at), Some(*want), "word {at}");
+    assert!(rt; are(&words, &["run", "--serial", "", "", "é"]));
+    Ok(())
+}
+
+// ---- sources
+
+// The calls that fail, the limit, and what is read, where it is no fault.
+const READS: [(&[u64], usize, Option<&[u8]>); 5] = [
+    (&[], 0, Some(b"")),
+    (&[], 3, Some(b"abc")),
+    (&[], 4, Some(b"abcd")),
+    (&[], 5, Some(b"abcd")),
+    (&[2], 5, None),
+];
+
+fn source(alloc: Global, failing: &[u64]) -> Result<MemorySource, AllocError> {
+    let bytes = b"abcd".to_vec(alloc)?;
+    let failing = failing.to_vec(alloc)?;
+    Ok(MemorySource::of(bytes, failing))
+}
+
+fn is_read(alloc: Global, source: &mut MemorySource, limit: usize, want: Option<&[u8]>) -> bool {
+    match read_up_to(alloc, source, limit) {
+        Ok(all) => want == Some(all.as_slice()),
+        Err(fault) => want.is_none() && fault == ReadFault::Failed,
     }
-    assert_eq!(rt; words.get(5), None);
+}
+
+#[test]
+fn sources_are_read_to_a_limit_or_a_fault(rt: HostRuntime) -> Result<(), AllocError> {
+    for (failing, limit, want) in READS {
+        let mut source = source(rt.alloc(), failing)?;
+        let is_read = is_read(rt.alloc(), &mut source, limit, want);
+        let is_at_end = source.read(&mut [7; 3]) == Ok(0);
+        assert!(rt; is_read && (limit < 5 || is_at_end), "{limit}");
+    }
+    Ok(())
+}
+
+// ---- sinks
+
+#[test]
+fn sinks_have_room(rt: HostRuntime) -> Result<(), AllocError> {
+    let mut sink = MemorySink::of(rt.alloc(), Vec::new(rt.alloc()), Some(5));
+    let answers = [write_all(&mut sink, b"abc"), write_all(&mut sink, b"def")];
+    assert!(rt; answers == [Ok(()), Err(SinkFault::Failed)] && sink.taken() == b"abcde".as_slice());
     Ok(())
 }
 
 #[test]
-fn sources_are_read_to_a_limit_or_a_fault(rt: HostRuntime) -> Result<(), Fail> {
-    let cases: [(&[u64], usize, &str); 5] = [
-        (&[], 0, ""),
-        (&[], 3, "abc"),
-        (&[], 4, "abcd"),
-        (&[], 5, "abcd"),
-        (&[2], 5, "a fault"),
-    ];
-    for (failing, limit, want) in cases {
-        let mut source = MemorySource::of(b"abcd".to_vec(rt.alloc())?, failing.to_vec(rt.alloc())?);
-        match read_up_to(rt.alloc(), &mut source, limit) {
-            Ok(all) => assert_eq!(rt; all.as_slice(), want.as_bytes(), "{limit}"),
-            Err(fault) => assert!(rt; want == "a fault" && fault == ReadFault::Failed, "{limit}"),
-        }
-        assert!(rt; limit < 5 || source.read(&mut [7; 3]) == Ok(0), "{limit}");
-    }
-    Ok(())
-}
-
-#[test]
-fn sinks_fail_where_they_are_told_to(rt: HostRuntime) -> Result<(), Fail> {
-    let mut full = MemorySink::of(rt.alloc(), Vec::new(rt.alloc()), Some(5));
-    assert_eq!(rt; write_all(&mut full, b"abc"), Ok(()));
-    assert_eq!(rt; write_all(&mut full, b"def"), Err(SinkFault::Failed));
-    assert_eq!(rt; full.taken(), b"abcde".as_slice());
-
+fn sinks_fail_where_they_are_told_to(rt: HostRuntime) -> Result<(), AllocError> {
     let mut sink = MemorySink::of(rt.alloc(), [2].to_vec(rt.alloc())?, None);
     let answers = [sink.write(b"a"), sink.write(b"b"), sink.write(b"c")];
-    assert!(rt; answers == [Ok(1), Err(Failed), Ok(1)]);
-    assert_eq!(rt; sink.taken(), b"ac".as_slice());
+    assert!(rt; answers == [Ok(1), Err(Failed), Ok(1)] && sink.taken() == b"ac".as_slice());
     Ok(())
 }
 
@@ -75,16 +111,21 @@ impl Sink for Idle {
 
 #[test]
 fn nothing_taken_is_a_fault(rt: HostRuntime) {
-    assert_eq!(rt; write_all(&mut Idle(0), b"a"), Err(SinkFault::Nothing));
-    assert_eq!(rt; write_all(&mut Idle(0), b""), Ok(()));
+    let answers = [write_all(&mut Idle(0), b"a"), write_all(&mut Idle(0), b"")];
+    assert!(rt; answers == [Err(SinkFault::Nothing), Ok(())]);
+}
+
+// ---- readers and writers of std
+
+fn is_adapted(alloc: Global) -> Result<bool, ReadFault> {
+    let mut source = ReaderSource::of(io::Cursor::new(b"ab"));
+    let all = read_up_to(alloc, &mut source, 9)?;
+    let mut sink = WriterSink::of(Vec::new(alloc));
+    Ok(all.as_slice() == b"ab".as_slice() && write_all(&mut sink, all.as_slice()).is_ok())
 }
 
 #[test]
-fn readers_and_writers_are_adapted(rt: HostRuntime) -> Result<(), Fail> {
-    let mut source = ReaderSource::of(io::Cursor::new(b"ab"));
-    let all = read_up_to(rt.alloc(), &mut source, 9)?;
-    assert_eq!(rt; all.as_slice(), b"ab".as_slice());
-    let mut sink = WriterSink::of(Vec::new(rt.alloc()));
-    assert_eq!(rt; write_all(&mut sink, all.as_slice()), Ok(()));
+fn readers_and_writers_are_adapted(rt: HostRuntime) -> Result<(), ReadFault> {
+    assert!(rt; is_adapted(rt.alloc())?);
     Ok(())
 }

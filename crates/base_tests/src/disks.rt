@@ -1,8 +1,7 @@
 // The disk in memory call by call with its images, a write and its sync on it, and a file.
-ghost use Rattle.std.specs.Prelude.{◌≡◌, IfOk, Some};
-
 use aq_disk::{Disk, Failed, FileDisk, Fill, LENGTH_LIMIT, MemoryDisk, write_synced};
 use std::alloc::{AllocError, Global};
+use std::rt::Files;
 use std::{fs, io};
 
 #[derive(Clone, Copy)]
@@ -13,17 +12,21 @@ enum Op {
     Len,
 }
 
+// Writes no further than behind the end, and says whether that worked.
+fn writes(disk: &mut MemoryDisk, alloc: Global, at: u64, from: &[u8]) -> Result<bool, AllocError> {
+    let image = disk.image(alloc, disk.calls(), Fill::New)?;
+    let length = image.len() as u64;
+    Ok(disk.write_at(at.min(length), from).is_ok())
+}
+
 // Makes a call, and says whether it worked.
 fn works(disk: &mut MemoryDisk, alloc: Global, op: Op) -> Result<bool, AllocError> {
-    match op {
-        Op::Write(at, from) => {
-            let length = disk.image(alloc, disk.calls(), Fill::New)?.len() as u64;
-            Ok(disk.write_at(at.min(length), from).is_ok())
-        }
-        Op::Sync => Ok(disk.sync().is_ok()),
-        Op::Read => Ok(disk.read(0, &mut [0; 3]).is_ok()),
-        Op::Len => Ok(disk.len().is_ok()),
-    }
+    Ok(match op {
+        Op::Write(at, from) => return writes(disk, alloc, at, from),
+        Op::Sync => disk.sync().is_ok(),
+        Op::Read => disk.read(0, &mut [0; 3]).is_ok(),
+        Op::Len => disk.len().is_ok(),
+    })
 }
 
 // A disk of these bytes, the calls on it, each with whether it works, and images that there are then.
@@ -125,71 +128,142 @@ const CASES: [Case; 5] = [
     },
 ];
 
+fn disk_of(alloc: Global, case: &Case) -> Result<MemoryDisk, AllocError> {
+    let start = case.start.to_vec(alloc)?;
+    let failing = case.failing.to_vec(alloc)?;
+    MemoryDisk::of(alloc, start, failing, case.fuse)
+}
+
+// Whether each of the calls answers as it should.
+fn all_work(
+    disk: &mut MemoryDisk,
+    alloc: Global,
+    calls: &[(Op, bool)],
+) -> Result<bool, AllocError> {
+    for (op, wanted) in calls {
+        if works(disk, alloc, *op)? != *wanted {
+            return Ok(false);
+        }
+    }
+    Ok(true)
+}
+
+fn counts_all(disk: &MemoryDisk, calls: &[(Op, bool)]) -> bool {
+    let faults = calls.iter().filter(|call| !call.1).count();
+    disk.calls() == calls.len() as u64 && disk.faults() == faults as u64
+}
+
+fn has_image(
+    disk: &MemoryDisk,
+    alloc: Global,
+    call: u64,
+    fill: Fill,
+    wanted: &[u8],
+) -> Result<bool, AllocError> {
+    if disk.calls() < call {
+        return Ok(false);
+    }
+    let image = disk.image(alloc, call, fill)?;
+    Ok(image.as_slice() == wanted)
+}
+
 #[test]
-fn calls_leave_their_images(rt: HostRuntime) -> Result<(), AllocError> {
+fn calls_are_answered_and_leave_their_images(rt: HostRuntime) -> Result<(), AllocError> {
     let alloc = rt.alloc();
     for (at, case) in CASES.iter().enumerate() {
-        let (start, failing) = (case.start.to_vec(alloc)?, case.failing.to_vec(alloc)?);
-        let mut disk = MemoryDisk::of(alloc, start, failing, case.fuse)?;
-        for (op, want) in case.calls {
-            assert!(rt; works(&mut disk, alloc, *op)? == *want, "case {at}");
-        }
-        let faults = case.calls.iter().filter(|call| !call.1).count() as u64;
-        assert_eq!(rt;
-            (disk.calls(), disk.faults()),
-            (case.calls.len() as u64, faults)
-        );
-        for (call, fill, want) in case.images {
-            assert!(rt; *call <= disk.calls());
-            let image = disk.image(alloc, *call, *fill)?;
-            assert!(rt; image.as_slice() == *want, "case {at} at {call}: {image:?}");
+        let mut disk = disk_of(alloc, case)?;
+        let is_answered = all_work(&mut disk, alloc, case.calls)?;
+        assert!(rt; is_answered && counts_all(&disk, case.calls), "case {at}");
+        for (call, fill, wanted) in case.images {
+            assert!(rt;
+                has_image(&disk, alloc, *call, *fill, wanted)?,
+                "case {at} at {call}"
+            );
         }
     }
     Ok(())
+}
+
+// ---- reads
+
+fn abcdef(alloc: Global) -> Result<MemoryDisk, AllocError> {
+    MemoryDisk::of(alloc, b"abcdef".to_vec(alloc)?, Vec::new(alloc), None)
+}
+
+const READS: [(u64, usize, &[u8; 4]); 4] = [
+    (0, 4, b"abcd"),
+    (4, 2, b"ef.."),
+    (6, 0, b"...."),
+    (u64::MAX, 0, b"...."),
+];
+
+fn reads(disk: &mut MemoryDisk, at: u64, count: usize, wanted: &[u8; 4]) -> bool {
+    let mut buffer = *b"....";
+    disk.read(at, &mut buffer) == Ok(count) && buffer == *wanted
 }
 
 #[test]
 fn reads_end_with_the_bytes(rt: HostRuntime) -> Result<(), AllocError> {
-    let bytes = b"abcdef".to_vec(rt.alloc())?;
-    let mut disk = MemoryDisk::of(rt.alloc(), bytes, Vec::new(rt.alloc()), None)?;
-    let cases: [(u64, usize, &[u8]); 4] = [
-        (0, 4, b"abcd"),
-        (4, 2, b"ef.."),
-        (6, 0, b"...."),
-        (u64::MAX, 0, b"...."),
-    ];
-    for (at, count, want) in cases {
-        let mut buffer = *b"....";
-        assert_eq!(rt; disk.read(at, &mut buffer), Ok(count), "at {at}");
-        assert!(rt; buffer.as_slice() == want, "at {at}");
+    let mut disk = abcdef(rt.alloc())?;
+    for (at, count, wanted) in READS {
+        assert!(rt; reads(&mut disk, at, count, wanted), "at {at}");
     }
-    assert_eq!(rt; write_synced(&mut disk, 0, b"gh"), Ok(()));
-    let image = disk.image(rt.alloc(), disk.calls(), Fill::Old)?;
-    assert!(rt; image.as_slice() == b"ghcdef".as_slice());
     Ok(())
 }
 
 #[test]
-fn a_file_reads_as_it_was_written(rt: HostRuntime) -> io::Result<()> {
-    let path = "aq_disk.test";
-    let mut disk = FileDisk::at(rt.clone()?, rt.alloc(), path)?;
-    assert_eq!(rt; disk.len(), Ok(0));
-    assert_eq!(rt; disk.write_at(0, b"abcdef"), Ok(()));
-    assert_eq!(rt; disk.write_at(4, b"EFG"), Ok(()));
-    assert_eq!(rt; disk.sync(), Ok(()));
+fn a_synced_write_is_in_each_image(rt: HostRuntime) -> Result<(), AllocError> {
+    let mut disk = abcdef(rt.alloc())?;
+    let is_written = write_synced(&mut disk, 0, b"gh").is_ok();
+    let call = disk.calls();
+    assert!(rt; is_written && has_image(&disk, rt.alloc(), call, Fill::Old, b"ghcdef")?);
+    Ok(())
+}
+
+// ---- a file
+
+const PATH: &str = "aq_disk.test";
+
+// What is written stands there, and nothing past its end.
+fn keeps<R: Files + Drop>(disk: &mut FileDisk<R>) -> bool {
+    let done = [
+        disk.write_at(0, b"abcdef"),
+        disk.write_at(4, b"EFG"),
+        disk.sync(),
+    ];
     let mut buffer = *b"........";
-    assert_eq!(rt; disk.read(2, &mut buffer), Ok(5));
-    assert!(rt; buffer == *b"cdEFG...");
-    assert_eq!(rt; disk.write_at(LENGTH_LIMIT, b"x"), Err(Failed));
-    assert_eq!(rt; disk.write_at(LENGTH_LIMIT + 1, b""), Err(Failed));
-    assert_eq!(rt; (disk.calls(), disk.faults()), (7, 2));
+    let count = disk.read(2, &mut buffer);
+    done == [Ok(()), Ok(()), Ok(())] && count == Ok(5) && buffer == *b"cdEFG..."
+}
 
-    let mut again = FileDisk::at(rt.clone()?, rt.alloc(), path)?;
-    assert_eq!(rt; again.len(), Ok(7));
-    fs::remove_file(&rt, path)?;
+fn has_a_limit<R: Files + Drop>(disk: &mut FileDisk<R>) -> bool {
+    disk.write_at(LENGTH_LIMIT, b"x") == Err(Failed)
+        && disk.write_at(LENGTH_LIMIT + 1, b"") == Err(Failed)
+}
 
+fn has_counted<R: Files + Drop>(disk: &FileDisk<R>, calls: u64, faults: u64) -> bool {
+    disk.calls() == calls && disk.faults() == faults
+}
+
+fn is_a_disk<R: Files + Drop>(disk: &mut FileDisk<R>) -> bool {
+    disk.len() == Ok(0) && keeps(disk) && has_a_limit(disk) && has_counted(disk, 7, 2)
+}
+
+#[test]
+fn a_file_reads_as_it_was_written(rt: HostRuntime) -> io::Result<()> {
+    let mut disk = FileDisk::at(rt.clone()?, rt.alloc(), PATH)?;
+    let is_written = is_a_disk(&mut disk);
+    let mut again = FileDisk::at(rt.clone()?, rt.alloc(), PATH)?;
+    let is_there = again.len() == Ok(7);
+    fs::remove_file(&rt, PATH)?;
+    assert!(rt; is_written && is_there);
+    Ok(())
+}
+
+#[test]
+fn a_file_in_no_folder_fails(rt: HostRuntime) -> io::Result<()> {
     let mut nowhere = FileDisk::at(rt.clone()?, rt.alloc(), "no-such-folder/aq_disk.test")?;
-    assert_eq!(rt; (nowhere.len(), nowhere.sync()), (Err(Failed), Err(Failed)));
-    assert_eq!(rt; (nowhere.calls(), nowhere.faults()), (2, 2));
+    let answers = (nowhere.len(), nowhere.sync());
+    assert!(rt; answers == (Err(Failed), Err(Failed)) && has_counted(&nowhere, 2, 2));
     Ok(())
 }
