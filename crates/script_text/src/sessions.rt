@@ -46,7 +46,8 @@ fn push_statement(session: &mut SessionScript, statement: Statement) -> Result<(
     ensures ok { OnOk result (session.new ≡ with_statement statement session.old) }
     ensures err { OnErr result (session.new ≡ session.old) }
 {
-    session.statements.push(statement)
+    let statements = &mut session.statements;
+    statements.push(statement)
 }
 
 fn push_statement_at(
