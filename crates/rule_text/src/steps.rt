@@ -301,16 +301,34 @@ fn is_not_like(phase: &Phase) -> bool
     matches!(phase, Phase::NotLike(_))
 }
 
+fn with_front(frames: List<Frame>, frame: Frame) -> Result<List<Frame>, AllocError>
+    ensures { IfOk result (λ now. now ≡ frame ∷ frames) }
+{
+    let mut frames = frames;
+    put_front(&mut frames, frame)?;
+    Ok(frames)
+}
+
 fn deeper(outline: Outline) -> Result<Option<Outline>, AllocError>
     ensures { IfOk result (λ s. s ≡ deeper outline) }
 {
     if !outline.has_room() {
         return Ok(None);
     }
-    let mut outline = outline;
-    put_front(&mut outline.frames, Frame::Not)?;
-    outline.phase = Phase::Unit;
-    Ok(Some(outline))
+    let Outline {
+        alternatives,
+        parts,
+        frames,
+        phase,
+    } = outline;
+    drop(phase);
+    let frames = with_front(frames, Frame::Not)?;
+    Ok(Some(Outline {
+        alternatives,
+        parts,
+        frames,
+        phase: Phase::Unit,
+    }))
 }
 
 fn opened(alloc: Global, outline: Outline) -> Result<Option<Outline>, AllocError>
@@ -323,10 +341,10 @@ fn opened(alloc: Global, outline: Outline) -> Result<Option<Outline>, AllocError
         alternatives,
         parts,
         frames,
-        phase: _,
+        phase,
     } = outline;
-    let mut frames = frames;
-    put_front(&mut frames, Frame::Open(alternatives, parts))?;
+    drop(phase);
+    let frames = with_front(frames, Frame::Open(alternatives, parts))?;
     Ok(Some(Outline {
         alternatives: List::new(alloc),
         parts: List::new(alloc),
