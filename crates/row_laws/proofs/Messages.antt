@@ -1,9 +1,9 @@
 -- The row of a message after one change.
-use Rattle.std.proofs.Common.{◌≡◌, ℕ, List, Bool, true, false, not, refl, sym, ap, ◌∙◌, subst, Option, Some, None, ◌==◌, ◌||◌, ◌&&◌}
-use Rattle.std.specs.Prelude.{find, option_map, option_and_then, is_none, is_some}
+use Rattle.std.proofs.Common.{◌≡◌, ℕ, List, [], Bool, true, false, not, refl, sym, ap, ◌∙◌, subst, Option, Some, None, ◌==◌, ◌||◌, ◌&&◌}
+use Rattle.std.specs.Prelude.{find, option_map, option_and_then, is_none, is_some, if◌then◌else◌}
 use Rattle.std.specs.Option.{option_map_or}
 use Rattle.std.specs.Str.{bytes_eq}
-use Rattle.std.proofs.lemmas.Bool.{eqb-true, eq-eqb, ne_eqb, eqb-false, not-true}
+use Rattle.std.proofs.lemmas.Bool.{eqb-true, eq-eqb, ne_eqb, eqb-false, not-true, false≢true}
 use Rattle.queue_rows.specs.Rows.{find_message, find_queue, find_table, removed_first, with_slot}
 use Rattle.queue_rows.specs.Settling.{left_by, if_it}
 use Rattle.queue_rows.specs.Tables.{after_change, changed_message, in_state, retried, moved_to, move_some, without_queue, without_table}
@@ -13,7 +13,7 @@ use Rattle.queue_rows.specs.declared.rows.MsgRow.{MsgRow}
 use Rattle.queue_rows.specs.declared.rows.SlotState.TheVariants as states
 use Rattle.queue_rows.specs.declared.tables.Tables.{Tables}
 use Rattle.row_laws.specs.RowLaws.{puts_new, leaves_to_settling, stands_in}
-use Rattle.row_laws.proofs.Finding.{is_single, none_is, found_is, find_other_last, single_other_last, single_new_last, kept, find_filter, single_filter, find_changed, find_other_changed, single_changed, find_removed, find_other_removed, single_removed}
+use Rattle.row_laws.proofs.Finding.{is_single, none_is, found_is, find-yes, find_last, find_other_last, single_other_last, single_new_last, kept, find_filter, single_filter, find_changed, find_other_changed, single_changed, find_removed, find_other_removed, single_removed}
 
 -- one message at most has the id
 abbrev pub IsSingle : Tables → ℕ → Type 0
@@ -149,6 +149,28 @@ finds_left t (changes.Dropped named slot at) id s e = finds_changed t (with_slot
 finds_left t (changes.Moved named queue at) id s e = finds_moved t named id queue at (find_message t named) refl e
 finds_left t (changes.Purged named) id s e = purged_at_id t named id (named == id) refl s
 finds_left t _ id s e = sym (and_then_some (find_message t id))
+
+-- ---- a message is put in
+
+put_in_by : (t : Tables) (row : MsgRow) (id : ℕ) (b : Bool) → (row.id == id) ≡ b → find_message t row.id ≡ None → find_message (after_change t (changes.Enqueued row)) id ≡ (if row.id == id then Some row else find_message t id)
+put_in_by t row id true e h =
+    let none : find_message t id ≡ None = ap (find_message t) (sym (eqb-true row.id id e)) ∙ h in
+    find_last (λ m. m.id == id) t.messages row none ∙ find-yes (λ m. m.id == id) row [] e ∙ rw e refl
+put_in_by t row id false e h = find_other_last (λ m. m.id == id) t.messages row e ∙ rw e refl
+
+pub finds_put_in : (t : Tables) (row : MsgRow) (id : ℕ) → is_none (find_message t row.id) ≡ true → find_message (after_change t (changes.Enqueued row)) id ≡ (if row.id == id then Some row else find_message t id)
+finds_put_in t row id h = put_in_by t row id (row.id == id) refl (none_is (find_message t row.id) h)
+
+-- ---- a queue that is there is dropped
+
+drop_by : (t : Tables) (name : List ℕ) (id : ℕ) (b : Bool) → is_some (find_queue t name) ≡ b → b ≡ true → IsSingle t id
+    → find_message (without_queue t name) id ≡ option_and_then (kept (λ m. not (bytes_eq m.queue name))) (find_message t id)
+drop_by t name id true e g s = rw e (find_filter (λ m. m.id == id) (λ m. not (bytes_eq m.queue name)) t.messages s)
+drop_by t name id false e g s = absurd (false≢true g)
+
+pub finds_without_queue : (t : Tables) (name : List ℕ) (id : ℕ) → is_some (find_queue t name) ≡ true → IsSingle t id
+    → find_message (after_change t (changes.DropQueue name)) id ≡ option_and_then (kept (λ m. not (bytes_eq m.queue name))) (find_message t id)
+finds_without_queue t name id h s = drop_by t name id (is_some (find_queue t name)) refl h s
 
 -- ---- ids stay single
 

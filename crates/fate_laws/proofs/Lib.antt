@@ -1,0 +1,7 @@
+pub mod Agreeing
+pub mod Commits
+pub mod Courses
+pub mod Fating
+pub mod Holding
+pub mod Naming
+pub mod Opening

@@ -1,0 +1,5 @@
+pub mod FateLaws
+pub mod Fates
+pub mod Lasting
+pub mod Made
+pub mod Proper

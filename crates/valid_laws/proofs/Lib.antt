@@ -1,0 +1,14 @@
+pub mod Calming
+pub mod Committing
+pub mod Doing
+pub mod Ending
+pub mod Exceptions
+pub mod Fitting
+pub mod Keeping
+pub mod Leaving
+pub mod Moving
+pub mod Opened
+pub mod Parts
+pub mod Runs
+pub mod Slotted
+pub mod Still

@@ -1,0 +1,2 @@
+pub mod Openness
+pub mod ValidLaws

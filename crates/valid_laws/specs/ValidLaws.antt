@@ -1,0 +1,114 @@
+-- The laws of valid tables and of due work.
+use Rattle.std.specs.Prelude.{◌≡◌, ◌≤◌, ◌<◌, ℕ, List, [], ◌∷◌, true, false, Option, Some, is_some}
+use Rattle.std.specs.List.{list_any}
+use Rattle.aq_base.specs.declared.DbId.{DbId}
+use Rattle.aq_base.specs.declared.limits.TheConstants.{MOMENT_LIMIT}
+use Rattle.queue_rows.specs.Rows.{find_message, find_queue, slot_of}
+use Rattle.queue_rows.specs.Tables.{after_change, changed_slot}
+use Rattle.queue_rows.specs.Session.{Session}
+use Rattle.queue_rows.specs.World.{committed_tables}
+use Rattle.queue_rows.specs.Due.{due}
+use Rattle.queue_rows.specs.Valid.{is_valid, has_right_retries, has_allowed_retries, has_begun, is_right_slot_zero, is_same_seen}
+use Rattle.queue_rows.specs.Fits.{fits, is_unmoved_at, names_what_is_there}
+use Rattle.queue_rows.specs.Settling.{is_exception}
+use Rattle.queue_rows.specs.declared.tables.Tables.{Tables}
+use Rattle.queue_rows.specs.declared.rows.MsgRow.{MsgRow}
+use Rattle.queue_rows.specs.declared.rows.SlotRow.{SlotRow}
+use Rattle.queue_rows.specs.declared.rows.QueueRow.{QueueRow}
+use Rattle.queue_rows.specs.declared.rows.SeenRow.{SeenRow}
+use Rattle.queue_rows.specs.declared.change.Change.{Change}
+use Rattle.queue_rows.specs.declared.change.Change.TheVariants as changes
+use Rattle.queue_rows.specs.declared.history.SlotRef.{SlotRef}
+use Rattle.valid_laws.specs.Openness.{is_open_at, may_move}
+
+-- ---- due work
+
+-- after a commit of what is due at a database nothing is due there at that moment; its tables need but be valid
+abbrev pub NothingDueAt : Type 0
+NothingDueAt = (t : Tables) (sessions : List Session) (db : DbId) (sent : Option SlotRef) (moment : ℕ) → is_valid t ≡ true
+    → due (committed_tables t (due t sessions db sent moment) moment) sessions db sent moment ≡ []
+
+-- ---- valid tables
+
+-- what a message's slot becomes is as it may be in its queue; of a moved message it is slot 0
+pub record MayBeChanged (latest : ℕ) (queue : QueueRow) (m : MsgRow) (slot : ℕ) (f : SlotRow → SlotRow) : Type 0 where
+  pub name : (s : SlotRow) → (f s).name ≡ s.name
+  pub address : (s : SlotRow) → (f s).address ≡ s.address
+  pub retries : (s : SlotRow) → slot_of m slot ≡ Some s → has_right_retries (f s) ≡ true
+  pub allowed : m.moved ≡ false → (s : SlotRow) → slot_of m slot ≡ Some s → has_allowed_retries queue (f s) ≡ true
+  pub begun : (s : SlotRow) → slot_of m slot ≡ Some s → has_begun latest (f s) ≡ true
+  pub zero : m.moved ≡ true → (slot ≡ 0) × ((s : SlotRow) → slot_of m slot ≡ Some s → is_right_slot_zero (Some (f s)) ≡ true)
+
+-- a slot that is changed as it may be keeps valid tables valid
+abbrev pub SlotKeepsValid : Type 0
+SlotKeepsValid = (t : Tables) (id slot : ℕ) (f : SlotRow → SlotRow) → is_valid t ≡ true
+    → ((m : MsgRow) (queue : QueueRow) → find_message t id ≡ Some m → find_queue t m.queue ≡ Some queue → MayBeChanged t.latest queue m slot f)
+    → is_valid (changed_slot t id slot f) ≡ true
+
+-- valid tables stay valid at a later moment, as a commit's
+abbrev pub LaterIsValid : Type 0
+LaterIsValid = (t : Tables) (latest : ℕ) → is_valid t ≡ true → t.latest ≤ latest → latest ≤ MOMENT_LIMIT
+    → is_valid (record t { latest = latest }) ≡ true
+
+-- ---- changes that keep tables valid
+
+-- the slot is open, and what becomes of it does so at a moment up to the latest
+pub record ChangesOpen (t : Tables) (id slot at : ℕ) : Type 0 where
+  pub is_open_there : is_open_at t id slot ≡ true
+  pub in_time : at ≤ t.latest
+
+-- its message was never moved
+pub record ChangesUnmoved (t : Tables) (id slot at : ℕ) : Type 0 where
+  pub changes_open : ChangesOpen t id slot at
+  pub unmoved : is_unmoved_at t id ≡ true
+
+-- its queue allows so many retries
+pub record Retries (t : Tables) (id slot retries at : ℕ) : Type 0 where
+  pub changes_unmoved : ChangesUnmoved t id slot at
+  pub few : (m : MsgRow) (queue : QueueRow) → find_message t id ≡ Some m → find_queue t m.queue ≡ Some queue → retries ≤ queue.max_retries
+
+-- the message was never moved and no slot of it is open, and the queue is an exception queue of its table
+pub record MovesRight (t : Tables) (id : ℕ) (queue : List ℕ) (at : ℕ) : Type 0 where
+  pub message : MsgRow
+  pub from : QueueRow
+  pub to : QueueRow
+  pub found : find_message t id ≡ Some message
+  pub may : may_move message ≡ true
+  pub from_is : find_queue t message.queue ≡ Some from
+  pub to_is : find_queue t queue ≡ Some to
+  pub exception : is_exception to.kind ≡ true
+  pub table_is : to.table ≡ from.table
+  pub in_time : at ≤ t.latest
+
+-- the pair was not seen before, and its copy is no message still to come
+pub record Sees (t : Tables) (row : SeenRow) : Type 0 where
+  pub unseen : list_any (is_same_seen row) t.seen ≡ false
+  pub behind : list_any (λ s. is_same_seen s row) t.seen ≡ false
+  pub copy : row.copy < t.next
+
+-- what a change needs so that it keeps tables valid; of the other changes nothing is said here
+abbrev pub Keeps : Tables → Change → Type 0
+Keeps t (changes.Done id slot at) = ChangesOpen t id slot at
+Keeps t (changes.Ready id slot at) = ChangesOpen t id slot at
+Keeps t (changes.Expired id slot at) = ChangesUnmoved t id slot at
+Keeps t (changes.Dropped id slot at) = ChangesUnmoved t id slot at
+Keeps t (changes.Retried id slot retries until at) = Retries t id slot retries at
+Keeps t (changes.Moved id queue at) = MovesRight t id queue at
+Keeps t (changes.Purged id) = is_some (find_message t id) ≡ true
+Keeps t (changes.Seen row) = Sees t row
+Keeps t _ = ⊥
+
+-- each change does, in the tables that those before it leave
+abbrev pub AllKeep : Tables → List Change → Type 0
+AllKeep t [] = Unit {0}
+AllKeep t (c ∷ cs) = Keeps t c × AllKeep (after_change t c) cs
+
+-- such a change keeps valid tables valid, and names what is there
+abbrev pub ChangeKeepsValid : Type 0
+ChangeKeepsValid = (t : Tables) (c : Change) → is_valid t ≡ true → Keeps t c
+    → (is_valid (after_change t c) ≡ true) × (names_what_is_there t c ≡ true)
+
+-- a commit of such changes, at a moment no earlier than the latest, fits
+abbrev pub CommitFits : Type 0
+CommitFits = (t : Tables) (moment : ℕ) (cs : List Change) → is_valid t ≡ true → t.latest ≤ moment → moment ≤ MOMENT_LIMIT
+    → AllKeep (record t { latest = moment }) cs → fits t (record { moment = moment; changes = cs }) ≡ true
