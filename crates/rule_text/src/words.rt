@@ -78,18 +78,20 @@ fn begins_name(byte: u8) -> bool
     byte.is_ascii_alphabetic()
 }
 
-fn has_name_bytes(text: &[u8]) -> bool
+fn has_field_name_bytes(text: &[u8]) -> bool
     ensures { result ≡ list_all (λ b. is_name_byte (to_ascii_lowercase b)) text.now }
 {
     text.iter().all(|byte| is_name_byte(*byte))
 }
 
-fn is_name(text: &[u8]) -> bool
+fn is_field_name(text: &[u8]) -> bool
     ensures { result ≡ is_field_name text.now }
 {
     match text {
         [] => false,
-        [first, ..] => begins_name(*first) && has_name_bytes(text) && text.len() <= NAME_LIMIT,
+        [first, ..] => begins_name(*first)
+            && has_field_name_bytes(text)
+            && text.len() <= NAME_LIMIT,
     }
 }
 
@@ -106,7 +108,7 @@ fn begins_word(word: Word, head: &[u8]) -> bool
     let letters = spelled(word).as_bytes();
     if is_named(word) && head.len() > letters.len() {
         let (front, name) = head.split_at(letters.len());
-        is_begun(letters, front) && is_name(name)
+        is_begun(letters, front) && is_field_name(name)
     } else {
         is_begun(letters, head)
     }
