@@ -87,7 +87,7 @@ impl<R: Files + Drop> HostFile<R> {
 
     // The file's bytes and length, and once its name in its folder.
     fn flush(&mut self) -> io::Result<()> {
-        sync_all(self.open_at(0)?)?;
+        sync_data(self.open_at(0)?)?;
         if !self.is_folder_synced {
             sync_folder(&self.files, self.path.as_str())?;
             self.is_folder_synced = true;
@@ -103,6 +103,17 @@ fn sync_folder<R: Files>(files: &R, path: &str) -> io::Result<()> {
         _ => Path::new("."),
     };
     sync_all(&fs::open(files, folder)?)
+}
+
+// The bytes of a file and its length, and not when it was changed. An interrupted sync is made again.
+fn sync_data<F: OpenFile>(file: &F) -> io::Result<()> {
+    for _ in 0..u64::MAX {
+        match file.sync_data() {
+            Err(error) if error.kind() == ErrorKind::Interrupted => {}
+            answer => return answer,
+        }
+    }
+    Err(io::Error::from(ErrorKind::Interrupted))
 }
 
 // An interrupted sync is made again.
