@@ -1,6 +1,5 @@
 // Where a new area goes.
 ghost use Rattle.std.specs.Prelude.{◌≡◌, ◌≤◌, ◌<◌, ◌+◌, ◌^◌};
-ghost use Rattle.redo_journal.specs.Journal.{pointer_of};
 ghost use Rattle.redo_journal.specs.Journaled.{IsArea};
 ghost use Rattle.checkpoint.specs.Compaction.{other_side, side_byte, new_root};
 
@@ -26,16 +25,6 @@ pub(crate) fn side_byte(side: Side) -> u8
     match side {
         Side::A => 0,
         Side::B => 1,
-    }
-}
-
-/// Where a header has the root of a side.
-pub(crate) fn pointer_of(side: Side) -> u64
-    ensures { result ≡ pointer_of side }
-{
-    match side {
-        Side::A => 8,
-        Side::B => 16,
     }
 }
 

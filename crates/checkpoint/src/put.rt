@@ -8,9 +8,9 @@ ghost use Rattle.redo_journal.specs.Runs.{IsDiskSettled, CrashLeaves};
 ghost use Rattle.redo_journal.specs.Journaled.{IsArea};
 ghost use Rattle.checkpoint.specs.Compaction.{new_root, TornTwice, TornTurn, turned_bytes};
 
-use crate::place::{new_root, other_side, pointer_of, side_byte};
+use crate::place::{new_root, other_side, side_byte};
 use aq_disk::{Disk, Failed, write_synced};
-use redo_journal::Active;
+use redo_journal::{Active, pointer_of};
 
 // Where a header tells the active side.
 const SIDE: u64 = 7;

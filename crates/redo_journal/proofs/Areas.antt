@@ -1,16 +1,16 @@
 -- What is read in front of a journal's frames.
 use Rattle.std.proofs.Common.{◌≡◌, ℕ, ◌+◌, ◌-◌, ◌≤◌, min, Bool, true, false, not, List, [], length, take, drop, refl, ◌∙◌, ap, arith, length-drop}
-use Rattle.std.specs.Prelude.{slice_range, Result, Ok, Err, if◌then◌else◌}
+use Rattle.std.specs.Prelude.{slice_range, Some, None, Result, Ok, Err, if◌then◌else◌}
 use Rattle.std.proofs.lemmas.List.{take_min, take_rest}
-use Rattle.redo_journal.specs.Journal.{Chain, Outline, chain_from, is_header, is_root, is_known_version, version_at, pointer_of, outline_at, outline_of, mounted_at, mounted_of, frames_in, is_unbegun}
+use Rattle.redo_journal.specs.Journal.{Chain, Outline, chain_from, is_header, is_root, is_known_version, version_at, pointer_of, outline_at, outline_of, mounted_at, mounted_of, frames_in, version_in, is_unbegun}
 use Rattle.redo_journal.specs.declared.frame.Damage.{Damage}
 use Rattle.redo_journal.specs.declared.frame.FrameAt.{FrameAt}
 use Rattle.redo_journal.specs.declared.frame.Side.{Side}
 use Rattle.redo_journal.specs.declared.read.ChainFault.{ChainFault}
 use Rattle.redo_journal.specs.declared.read.ChainFault.TheVariants.{Broken, Memory}
-use Rattle.redo_journal.specs.Broken.{IsBrokenAt, IsOutlineDamaged, IsDamagedAt, IsDamaged}
+use Rattle.redo_journal.specs.Broken.{IsBrokenAt, IsOutlineDamaged, IsDamagedAt, IsDamaged, in_version}
 use Rattle.redo_journal.proofs.Frames.{chain_room}
-use Rattle.redo_journal.proofs.Heads.{outline_is, journal_begun, frames_begun}
+use Rattle.redo_journal.proofs.Heads.{outline_is, journal_begun, frames_begun, version_begun}
 
 -- a range that ends where the bytes do, if these end before
 pub front_of_range : (end : ℕ) (bytes : List ℕ) → 1 ≤ length bytes → end ≡ min (length bytes) 29 → slice_range bytes 1 end ≡ slice_range bytes 1 29
@@ -29,10 +29,10 @@ read_chain root bytes = chain_from (length (drop (root + 4) bytes)) (root + 4) (
 
 -- no area, and so no frame
 abbrev bare : ℕ → Damage
-bare offset = record { offset = offset; frames = [] }
+bare offset = record { offset = offset; version = None; frames = [] }
 
 none_there : (offset : ℕ) (outlined : Result Outline ℕ) → outlined ≡ Err offset → IsDamagedAt (Broken (bare offset)) outlined
-none_there offset outlined is = record { offset = ap mounted_of is; frames = ap frames_in is }
+none_there offset outlined is = record { offset = ap mounted_of is; version = ap version_in is; frames = ap frames_in is }
 
 pub no_root : (side : Side) (root : ℕ) (bytes : List ℕ) → is_root root bytes ≡ false → IsDamagedAt (Broken (bare (pointer_of side))) (outline_at side root bytes)
 no_root side root bytes no_root_is = none_there (pointer_of side) (outline_at side root bytes) (rw no_root_is refl)
@@ -60,13 +60,16 @@ module _ (side : Side) (root : ℕ) (bytes : List ℕ) (fits : is_root root byte
         → mounted_of (outline_at side root bytes) ≡ Ok (record { version = version_at root bytes; active = record { side = side; root = root; gate = gate }; frames = frames })
     area_ok frames gate is = ap mounted_of area_is ∙ ap (λ (c : Chain). mounted_at (record { version = version_at root bytes; side = side; root = root; chain = c }) c.end) (same_chain ∙ is)
 
-    pub area_broken : (damage : Damage) → IsBrokenAt (Broken damage) (read_chain root bytes) → IsDamagedAt (Broken damage) (outline_at side root bytes)
+    pub area_broken : (damage : Damage) → IsBrokenAt (Broken damage) (read_chain root bytes)
+        → IsDamagedAt (in_version (version_at root bytes) (Broken damage)) (outline_at side root bytes)
     area_broken damage is = record {
       offset = ap mounted_of area_is ∙ ap (λ (c : Chain). mounted_at (record { version = version_at root bytes; side = side; root = root; chain = c }) c.end) (same_chain ∙ is);
+      version = ap version_in area_is;
       frames = ap frames_in area_is ∙ ap (λ (c : Chain). c.frames) (same_chain ∙ is);
     }
 
-pub area_damaged : (side : Side) (root : ℕ) (bytes : List ℕ) (fault : ChainFault) → is_root root bytes ≡ true → is_known_version (version_at root bytes) ≡ true → IsBrokenAt fault (read_chain root bytes) → IsDamagedAt fault (outline_at side root bytes)
+pub area_damaged : (side : Side) (root : ℕ) (bytes : List ℕ) (fault : ChainFault) → is_root root bytes ≡ true → is_known_version (version_at root bytes) ≡ true → IsBrokenAt fault (read_chain root bytes)
+    → IsDamagedAt (in_version (version_at root bytes) fault) (outline_at side root bytes)
 area_damaged side root bytes (Broken damage) fits known is = area_broken side root bytes fits known damage is
 area_damaged side root bytes Memory fits known is = tt
 
@@ -75,4 +78,4 @@ rest_of at bytes = take_rest bytes at
 
 -- where a disk is begun, it is damaged as it is outlined
 pub damage_begun : (damage : Damage) (bytes : List ℕ) → is_unbegun bytes ≡ false → IsOutlineDamaged damage (outline_of bytes) → IsDamaged damage bytes
-damage_begun damage bytes is damaged = record { offset = journal_begun bytes is ∙ damaged.offset; frames = frames_begun bytes is ∙ damaged.frames }
+damage_begun damage bytes is damaged = record { offset = journal_begun bytes is ∙ damaged.offset; version = version_begun bytes is ∙ damaged.version; frames = frames_begun bytes is ∙ damaged.frames }

@@ -6,7 +6,7 @@ use Rattle.std.specs.Str.{bytes_eq}
 use Rattle.std.proofs.lemmas.Bool.{leb-true}
 use Rattle.std.proofs.lemmas.Grind.{common_steps}
 use Rattle.std.proofs.lemmas.List.{drop_at, get_or_append_left, take-append-le, drop-append-le}
-use Rattle.redo_journal.specs.Journal.{Chain, Outline, Mounted, magic, first_root, chain_from, is_header, side_of, root_of, pointer_of, version_at, is_root, is_known_version, outline_at, outline_of, is_unbegun, begun, outline, mounted_at, mounted_of, journal, frames_in, frames_of}
+use Rattle.redo_journal.specs.Journal.{Chain, Outline, Mounted, magic, first_root, chain_from, is_header, side_of, root_of, pointer_of, version_at, is_root, is_known_version, outline_at, outline_of, is_unbegun, begun, outline, mounted_at, mounted_of, journal, frames_in, frames_of, version_in, version_of}
 use Rattle.redo_journal.specs.Journaled.{IsArea}
 use Rattle.redo_journal.specs.declared.frame.FrameAt.{FrameAt}
 use Rattle.redo_journal.specs.declared.frame.Side.{Side}
@@ -260,6 +260,10 @@ journal_begun bytes is = ap (λ (t : Bool). mounted_of (if t then Ok begun else 
 pub frames_begun : (bytes : List ℕ) → is_unbegun bytes ≡ false → frames_of bytes ≡ frames_in (outline_of bytes)
 unfolding frames_of outline
 frames_begun bytes is = ap (λ (t : Bool). frames_in (if t then Ok begun else outline_of bytes)) is
+
+pub version_begun : (bytes : List ℕ) → is_unbegun bytes ≡ false → version_of bytes ≡ version_in (outline_of bytes)
+unfolding version_of outline
+version_begun bytes is = ap (λ (t : Bool). version_in (if t then Ok begun else outline_of bytes)) is
 
 pub journal_unbegun : (bytes : List ℕ) → is_unbegun bytes ≡ true → journal bytes ≡ Ok (mounted 2 A 24 28 [])
 unfolding journal outline

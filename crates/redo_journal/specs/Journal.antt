@@ -185,6 +185,14 @@ abbrev pub frames_in : Result Outline ℕ → List FrameAt
 frames_in (Ok o) = o.chain.frames
 frames_in (Err at) = []
 
+-- the version of the active area, where there is one
+abbrev pub version_in : Result Outline ℕ → Option ℕ
+version_in (Ok o) = Some o.version
+version_in (Err at) = None
+
+unfoldable pub version_of : List ℕ → Option ℕ
+version_of bytes = version_in (outline bytes)
+
 -- the frames behind open gates, up to the closed gate that ends them or to the damage
 unfoldable pub frames_of : List ℕ → List FrameAt
 frames_of bytes = frames_in (outline bytes)

@@ -11,7 +11,7 @@ use Rattle.redo_journal.specs.declared.mount.MountFault.TheVariants.{Fault, Dama
 abbrev pub mounted_as : {D : Type 0} → Journaled D → List FrameAt → Mounted
 mounted_as j frames = record { version = j.version; active = j.active; frames = frames }
 
--- damage is told with its offset and the frames in front of it; a fault and want of memory say nothing of the bytes
+-- damage is told with its offset, the area's version and the frames in front of it; a fault and want of memory say nothing of the bytes
 abbrev pub IsDamage : {D : Type 0} → MountFault D → List ℕ → Type 0
 IsDamage (Fault disk) bytes = Unit {0}
 IsDamage (Damaged damage disk) bytes = IsDamaged damage bytes

@@ -1,10 +1,10 @@
 // What stands in front of a journal's frames.
-ghost use Rattle.std.specs.Prelude.{◌≡◌, ◌≤◌, ◌+◌, ◌^◌, ℕ, [], length, slice_range, Ok, Err, IfOk, IfErr};
+ghost use Rattle.std.specs.Prelude.{◌≡◌, ◌≤◌, ◌+◌, ◌^◌, ℕ, [], length, slice_range, Ok, Err, None, IfOk, IfErr};
 ghost use Rattle.std.specs.Int.{w64, from_be_bytes};
 ghost use Rattle.std.specs.Str.{bytes_eq};
 ghost use Rattle.redo_journal.specs.Journal.{is_header, side_of, root_of, version_at, is_unbegun, is_root, is_known_version, outline_at, outline_of, mounted_of, pointer_of};
 ghost use Rattle.redo_journal.specs.Begun.{mounted_by};
-ghost use Rattle.redo_journal.specs.Broken.{IsDamagedAt};
+ghost use Rattle.redo_journal.specs.Broken.{IsDamagedAt, in_version};
 
 use crate::frame::{Active, Damage, FrameAt, Side};
 use crate::read::{ChainFault, frames_from};
@@ -72,7 +72,8 @@ fn root_of(side: Side, bytes: &[u8]) -> u64
     }
 }
 
-fn pointer_of(side: Side) -> u64
+/// Where a header has the root of a side.
+pub fn pointer_of(side: Side) -> u64
     ensures { result ≡ pointer_of side }
 {
     match side {
@@ -114,12 +115,27 @@ fn is_known_version(version: u32) -> bool
 
 // There is no area, and so no frame.
 fn no_area(alloc: Global, offset: u64) -> ChainFault
-    ensures { result ≡ ChainFault.Broken (record { offset = offset; frames = [] }) }
+    ensures { result ≡ ChainFault.Broken (record { offset = offset; version = None; frames = [] }) }
 {
     ChainFault::Broken(Damage {
         offset,
+        version: None,
         frames: List::new(alloc),
     })
+}
+
+// What is broken in the area of a version.
+fn in_version(version: u32, fault: ChainFault) -> ChainFault
+    ensures { result ≡ in_version version fault }
+{
+    match fault {
+        ChainFault::Broken(damage) => ChainFault::Broken(Damage {
+            offset: damage.offset,
+            version: Some(version),
+            frames: damage.frames,
+        }),
+        ChainFault::Memory => ChainFault::Memory,
+    }
 }
 
 #[tactic(auto, using(crate::proofs::Areas::no_root, crate::proofs::Areas::no_version, crate::proofs::Areas::area_ok, crate::proofs::Areas::area_broken))]
@@ -141,7 +157,7 @@ fn area_at(alloc: Global, side: Side, root: u64, bytes: &[u8]) -> Result<Found, 
             active: Active { side, root, gate },
             frames,
         }),
-        Err(fault) => Err(fault),
+        Err(fault) => Err(in_version(version, fault)),
     }
 }
 

@@ -35,6 +35,8 @@ pub struct FrameAt {
 pub struct Damage {
     /// The offset of what is damaged.
     pub offset: u64,
+    /// The version of the area that it is in, in which its bodies are read; none where there is no area.
+    pub version: Option<u32>,
     /// The frames in front of it, which stand behind open gates.
     pub frames: List<FrameAt>,
 }

@@ -13,6 +13,7 @@ mod mount;
 mod put;
 mod read;
 
+pub use area::pointer_of;
 pub use compacted::compacted_area;
 pub use frame::{Active, Damage, FrameAt, Side};
 pub use journal::{Journal, JournalFault};

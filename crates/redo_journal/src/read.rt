@@ -170,10 +170,15 @@ impl From<AllocError> for ChainFault {
     }
 }
 
+// Whoever knows the area tells its version.
 fn broken(offset: u64, frames: List<FrameAt>) -> ChainFault
-    ensures { result ≡ ChainFault.Broken (record { offset = offset; frames = frames }) }
+    ensures { result ≡ ChainFault.Broken (record { offset = offset; version = None; frames = frames }) }
 {
-    ChainFault::Broken(Damage { offset, frames })
+    ChainFault::Broken(Damage {
+        offset,
+        version: None,
+        frames,
+    })
 }
 
 // The frames from a gate on, which is the first of the bytes, and the closed gate that ends them.
