@@ -77,6 +77,26 @@ fn is_compacted(alloc: Global) -> Result<bool, AllocError> {
     Ok(read && bytes_of(alloc, &disk)? == want && is_there_again(alloc, disk)?)
 }
 
+// The same with that journal compacted again: the new area just fits in front of the other one.
+fn twice_compacted(alloc: Global) -> Result<Vec<u8>, AllocError> {
+    let mut header = HEADER;
+    header[23] = 68;
+    let version: &[u8] = &[0, 0, 0, 2];
+    joined(
+        alloc,
+        &[
+            &header,
+            &FRAME_HEAD,
+            &COMMIT,
+            &[0],
+            version,
+            &FRAME_HEAD,
+            &COMMIT,
+            &[0],
+        ],
+    )
+}
+
 // It is mounted, and compacted again into the room in front of it.
 fn is_there_again(alloc: Global, disk: MemoryDisk) -> Result<bool, AllocError> {
     let Ok((journal, _)) = Journal::mount(alloc, disk) else {
@@ -87,12 +107,13 @@ fn is_there_again(alloc: Global, disk: MemoryDisk) -> Result<bool, AllocError> {
     let Ok(disk) = compact(alloc, journal, &COMMIT) else {
         return Ok(false);
     };
+    let written = bytes_of(alloc, &disk)? == twice_compacted(alloc)?;
     let Ok((journal, frames)) = Journal::mount(alloc, disk) else {
         return Ok(false);
     };
     let active = journal.active();
     let back = active.side == Side::A && active.root == 24 && active.gate == 67;
-    Ok(there && back && frames.len() == 1)
+    Ok(there && written && back && frames.len() == 1)
 }
 
 #[test]
