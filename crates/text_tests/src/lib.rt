@@ -1,11 +1,9 @@
-//! Tests of what is read and printed: conditions, scripts and transcripts.
+//! Tests of what is read and printed: conditions and transcripts.
 #![tactic(auto)]
 
 #[cfg(test)]
 mod condition_texts;
 #[cfg(test)]
 mod conditions;
-#[cfg(test)]
-mod scripts;
 #[cfg(test)]
 mod transcripts;
