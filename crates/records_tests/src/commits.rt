@@ -8,8 +8,8 @@ use std::test::Fail;
 const MESSAGE: &[u8] =
     b"\x0a\x09\x01\x01q\x03\0\x14\x02\x02\0\0\x01\x01\x02\x0a\x01\0\x01\0\0\0\0\x0a\0\x02\x03lvl\x01\x04\x04zone\x02\x01n";
 
-// A message in version 1, which has no properties.
-const OLD_MESSAGE: &[u8] =
+/// A message in version 1, which has no properties.
+pub const OLD_MESSAGE: &[u8] =
     b"\x15\x09\x03\x02mq\x03\0\x2a\x02\x02\0\0\x01\x01\x02\x15\x01\0\x01\x01\x01r\x01\x03inq\0\0\x15\0";
 
 #[test]
