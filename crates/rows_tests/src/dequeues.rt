@@ -1,5 +1,6 @@
 // Dequeues of session 1 at the moment 10, beside the marks of others, and what each does as a short text.
-ghost use Rattle.std.specs.Prelude.{IfOk};
+ghost use Rattle.std.specs.Prelude.{IfOk, ◌≡◌, false};
+ghost use Rattle.queue_rows.specs.Dequeueing.{is_by_transaction};
 ghost use Rattle.built_statements.specs.Built.{IsPlainDequeue};
 
 use crate::{effects, fixtures};
@@ -12,18 +13,35 @@ use queue_rows::{Change, Dequeue, Mode, Navigation, Position, SlotState, Visibil
 use row_locks::RowLocks;
 use sessions::SessionState;
 use slot_marks::Mark;
-use std::alloc::Global;
+use std::alloc::{AllocError, Global};
+use std::process::Abort;
 use std::test::Fail;
 
 // ---- the messages: 1 to 3 stand as 2, 1, 3 in a queue, and 4 in an exception queue
 
+fn add_message(
+    store: &mut Store,
+    alloc: Global,
+    id: u32,
+    queue: &str,
+    column: i64,
+) -> Result<(), Fail> {
+    let mut message = fixtures::message(alloc, id, queue, 0, column)?;
+    message.moved = queue == "x";
+    fixtures::commit(store, alloc, Change::Enqueued(message))?;
+    Ok(())
+}
+
+fn add_messages(store: &mut Store, alloc: Global) -> Result<(), Fail> {
+    for (id, queue, column) in [(1, "q", 1), (2, "q", 0), (3, "q", 3), (4, "x", 0)] {
+        add_message(store, alloc, id, queue, column)?;
+    }
+    Ok(())
+}
+
 fn store(alloc: Global) -> Result<Store, Fail> {
     let mut store = effects::store(alloc)?;
-    for (id, queue, column) in [(1, "q", 1), (2, "q", 0), (3, "q", 3), (4, "x", 0)] {
-        let mut message = fixtures::message(alloc, id, queue, 0, column)?;
-        message.moved = queue == "x";
-        fixtures::commit(&mut store, alloc, Change::Enqueued(message))?;
-    }
+    add_messages(&mut store, alloc)?;
     Ok(store)
 }
 
@@ -32,53 +50,91 @@ fn store(alloc: Global) -> Result<Store, Fail> {
 // A session, a message, and whether the session removed the message's slot.
 type Marked = (u32, u64, bool);
 
+fn mark(id: u64, removed: bool) -> Mark {
+    Mark {
+        id,
+        slot: 1,
+        removed,
+        group: None,
+    }
+}
+
+fn take(locks: &mut RowLocks, marked: &[Marked]) -> Result<(), Fail> {
+    for (session, id, removed) in marked {
+        locks
+            .take(*session, mark(*id, *removed))
+            .ok()
+            .ok_or("not taken")?;
+    }
+    Ok(())
+}
+
 fn locks(alloc: Global, marked: &[Marked]) -> Result<RowLocks, Fail> {
     let mut locks = RowLocks::new(alloc);
-    for (session, id, removed) in marked {
-        let mark = Mark {
-            id: *id,
-            slot: 1,
-            removed: *removed,
-            group: None,
-        };
-        locks.take(*session, mark).ok().ok_or("not taken")?;
-    }
+    take(&mut locks, marked)?;
     Ok(locks)
+}
+
+// The position at that message in the queue.
+fn position(alloc: Global, at: u32) -> Result<Position, Fail> {
+    let column = if at == 2 { 0 } else { i64::from(at) };
+    let queue = Name::read(alloc, "q")?;
+    let place = Place::of(alloc, 0, &[column], u64::from(at))?;
+    let group = 1;
+    Ok(Position {
+        queue,
+        consumer: None,
+        place,
+        group,
+    })
+}
+
+fn stand(session: &mut SessionState, alloc: Global, at: u32) -> Result<(), Fail> {
+    let position = position(alloc, at)?;
+    session.positions.push(position)?;
+    Ok(())
 }
 
 // A session of Home whose position is that message's in the queue, or nowhere at 0.
 fn session(alloc: Global, at: u32) -> Result<SessionState, Fail> {
     let mut session = fixtures::session(alloc, DbId::Home);
     if at > 0 {
-        let column = if at == 2 { 0 } else { i64::from(at) };
-        session.positions.push(Position {
-            queue: Name::read(alloc, "q")?,
-            consumer: None,
-            place: Place::of(alloc, 0, &[column], u64::from(at))?,
-            group: 1,
-        })?;
+        stand(&mut session, alloc, at)?;
     }
     Ok(session)
 }
 
-fn asked(alloc: Global, queue: &str, first: bool, how: How) -> Result<Dequeue, Fail>
-    ensures { IfOk result IsPlainDequeue }
+fn navigation(first: bool) -> Navigation
+    ensures { is_by_transaction result ≡ false }
 {
-    Ok(Dequeue {
-        queue: Name::read(alloc, queue)?,
+    if first {
+        Navigation::First
+    } else {
+        Navigation::Next
+    }
+}
+
+fn asked_of(queue: Name, first: bool, how: How) -> Dequeue
+    ensures { IsPlainDequeue result }
+{
+    Dequeue {
+        queue,
         consumer: None,
         mode: how.0,
-        navigation: if first {
-            Navigation::First
-        } else {
-            Navigation::Next
-        },
+        navigation: navigation(first),
         visibility: how.1,
         wait: 0,
         msgid: None,
         corr: None,
         condition: None,
-    })
+    }
+}
+
+fn asked(alloc: Global, queue: &str, first: bool, how: How) -> Result<Dequeue, Fail>
+    ensures { IfOk result IsPlainDequeue }
+{
+    let queue = Name::read(alloc, queue)?;
+    Ok(asked_of(queue, first, how))
 }
 
 // ---- cases
@@ -163,23 +219,39 @@ const CASES: [Case; 12] = [
     (&[], 0, "nil", true, REMOVES, "no queue []"),
 ];
 
-fn dequeued(alloc: Global, store: &Store, case: &Case) -> Result<String, Fail> {
-    let (marked, at, queue, first, how, _) = case;
-    let locks = locks(alloc, marked)?;
-    let session = session(alloc, *at)?;
-    let ask = asked(alloc, queue, *first, *how)?;
+fn does(
+    alloc: Global,
+    store: &Store,
+    locks: &RowLocks,
+    session: &SessionState,
+    ask: &Dequeue,
+    wanted: &str,
+) -> Result<bool, AllocError>
+    requires { IsPlainDequeue ask.now }
+{
     if !effects::is_ready(store) || session.parked.is_some() {
-        return Ok(format!(in alloc; "not ready")?);
+        return Ok(false);
     }
-    let effect = dequeue(alloc, store, &locks, 1, &session, &ask, 10)?;
-    effects::told(alloc, &effect)
+    let effect = dequeue(alloc, store, locks, 1, session, ask, 10)?;
+    effects::is_told(alloc, &effect, wanted)
+}
+
+fn is_given(alloc: Global, store: &Store, case: &Case) -> Result<bool, Fail> {
+    let locks = locks(alloc, case.0)?;
+    let session = session(alloc, case.1)?;
+    let ask = asked(alloc, case.2, case.3, case.4)?;
+    Ok(does(alloc, store, &locks, &session, &ask, case.5)?)
+}
+
+fn check(rt: &impl Abort, alloc: Global, store: &Store, cases: &[Case]) -> Result<(), Fail> {
+    for case in cases {
+        assert!(rt; is_given(alloc, store, case)?, "{}", case.5);
+    }
+    Ok(())
 }
 
 #[test]
 fn each_dequeue_gives_what_it_may(rt: HostRuntime) -> Result<(), Fail> {
     let store = store(rt.alloc())?;
-    for case in CASES {
-        assert_eq!(rt; dequeued(rt.alloc(), &store, &case)?.as_str(), case.5);
-    }
-    Ok(())
+    check(&rt, rt.alloc(), &store, &CASES)
 }

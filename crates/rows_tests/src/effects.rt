@@ -1,42 +1,73 @@
 // A store for statements, and what the effect of a statement is, as a short text.
-ghost use Rattle.std.specs.Prelude.{All, IsTrue, ◌≤◌};
+ghost use Rattle.std.specs.Prelude.{All, IfOk, IsTrue, ◌≤◌};
 ghost use Rattle.sessions.specs.Within.{IsPlainTable, IsQueueWithin};
 
 use crate::fixtures;
 use message_store::Store;
 use payload_records::List;
 use place_keys::{Column, SortList};
-use queue_rows::{Change, Pending, QueueKind, Reply};
+use queue_rows::{Change, MsgRow, Pending, QueueKind, QueueRow, Reply, TableRow};
 use sessions::{Effect, PositionMove, Verdict};
 use slot_marks::Mark;
-use std::alloc::Global;
+use std::alloc::{AllocError, Global};
 use std::test::Fail;
 
 // ---- the store
 
+fn add_columns(columns: &mut List<Column>) -> Result<(), AllocError> {
+    columns.push(Column::Priority)?;
+    columns.push(Column::CommitTime)
+}
+
 fn columns(alloc: Global) -> Result<SortList, Fail> {
     let mut columns = List::new(alloc);
-    columns.push(Column::Priority)?;
-    columns.push(Column::CommitTime)?;
+    add_columns(&mut columns)?;
     Ok(SortList::of(columns).ok_or("no sort list")?)
+}
+
+fn table(alloc: Global) -> Result<TableRow, Fail>
+    ensures { IfOk result (λ table. IsPlainTable table) }
+{
+    let columns = columns(alloc)?;
+    fixtures::table(alloc, columns)
+}
+
+fn add_table(store: &mut Store, alloc: Global) -> Result<(), Fail> {
+    let table = table(alloc)?;
+    fixtures::commit(store, alloc, Change::PutTable(table))?;
+    Ok(())
+}
+
+fn on_or_off(queue: QueueRow, is_on: bool) -> QueueRow {
+    let mut queue = queue;
+    queue.enqueue = is_on;
+    queue.dequeue = is_on;
+    queue
+}
+
+fn add_queue(store: &mut Store, alloc: Global, name: &str) -> Result<(), Fail> {
+    let kind = if name == "x" {
+        QueueKind::Exception
+    } else {
+        QueueKind::Normal
+    };
+    let queue = on_or_off(fixtures::queue(alloc, name, kind)?, name != "off");
+    fixtures::commit(store, alloc, Change::PutQueue(queue))?;
+    Ok(())
+}
+
+fn add_rows(store: &mut Store, alloc: Global) -> Result<(), Fail> {
+    add_table(store, alloc)?;
+    for name in ["q", "x", "off"] {
+        add_queue(store, alloc, name)?;
+    }
+    Ok(())
 }
 
 /// A store with the queue `q`, the exception queue `x`, and the queue `off`, which neither takes messages nor gives any.
 pub fn store(alloc: Global) -> Result<Store, Fail> {
     let mut store = Store::new(alloc);
-    let table = fixtures::table(alloc, columns(alloc)?)?;
-    fixtures::commit(&mut store, alloc, Change::PutTable(table))?;
-    for name in ["q", "x", "off"] {
-        let kind = if name == "x" {
-            QueueKind::Exception
-        } else {
-            QueueKind::Normal
-        };
-        let mut queue = fixtures::queue(alloc, name, kind)?;
-        queue.enqueue = name != "off";
-        queue.dequeue = name != "off";
-        fixtures::commit(&mut store, alloc, Change::PutQueue(queue))?;
-    }
+    add_rows(&mut store, alloc)?;
     Ok(store)
 }
 
@@ -54,41 +85,50 @@ pub fn is_ready(store: &Store) -> bool
 
 // ---- effects
 
-fn answer(alloc: Global, reply: &Reply) -> Result<String, Fail> {
-    let word = match reply {
-        Reply::Enqueued(id) => return Ok(format!(in alloc; "{:?} {}", id.db, id.number)?),
-        Reply::Message { id, payload, .. } => {
-            let bare = if payload.is_none() { " bare" } else { "" };
-            return Ok(format!(in alloc; "{}{bare}", id.number)?);
-        }
-        Reply::Payload(fault) => return Ok(format!(in alloc; "{fault:?}")?),
-        Reply::Limit(name) => return Ok(format!(in alloc; "no more {name:?}")?),
+fn word(reply: &Reply) -> &'static str {
+    match reply {
         Reply::NoMessage => "none",
         Reply::NoQueue => "no queue",
         Reply::WrongKind => "wrong kind",
         Reply::EnqueueOff | Reply::DequeueOff => "off",
         _ => "other",
-    };
-    Ok(format!(in alloc; "{word}")?)
-}
-
-fn pending(alloc: Global, pend: &Option<Pending>) -> Result<String, Fail> {
-    match pend {
-        Some(Pending::Add(row)) => {
-            let slots = fixtures::slots(alloc, &row.slots)?;
-            Ok(format!(in alloc; " adds {} of {}{slots}", row.id, row.group)?)
-        }
-        Some(Pending::Remove { id, slot }) => Ok(format!(in alloc; " removes {id}.{slot}")?),
-        None => Ok(String::new(alloc)),
     }
 }
 
-fn marked(alloc: Global, what: &str, mark: &Option<Mark>) -> Result<String, Fail> {
+fn put_reply(out: &mut String, reply: &Reply) -> Result<(), AllocError> {
+    match reply {
+        Reply::Enqueued(id) => write!(out, "{:?} {}", id.db, id.number),
+        Reply::Message { id, payload, .. } => {
+            let bare = if payload.is_none() { " bare" } else { "" };
+            write!(out, "{}{bare}", id.number)
+        }
+        Reply::Payload(fault) => write!(out, "{fault:?}"),
+        Reply::Limit(name) => write!(out, "no more {name:?}"),
+        _ => out.push_str(word(reply)),
+    }
+}
+
+fn put_addition(out: &mut String, row: &MsgRow) -> Result<(), AllocError> {
+    let id = row.id;
+    let group = row.group;
+    write!(out, " adds {id} of {group}")?;
+    fixtures::put_slots(out, &row.slots)
+}
+
+fn put_pending(out: &mut String, pend: &Option<Pending>) -> Result<(), AllocError> {
+    match pend {
+        Some(Pending::Add(row)) => put_addition(out, row),
+        Some(Pending::Remove { id, slot }) => write!(out, " removes {id}.{slot}"),
+        None => Ok(()),
+    }
+}
+
+fn put_mark(out: &mut String, what: &str, mark: &Option<Mark>) -> Result<(), AllocError> {
     match mark {
-        None => Ok(String::new(alloc)),
+        None => Ok(()),
         Some(mark) => {
             let how = if mark.removed { "removed" } else { "locked" };
-            Ok(format!(in alloc; " {what} {}.{} {how}", mark.id, mark.slot)?)
+            write!(out, " {what} {}.{} {how}", mark.id, mark.slot)
         }
     }
 }
@@ -101,16 +141,31 @@ fn position(position: &PositionMove) -> &'static str {
     }
 }
 
-/// The reply, what is committed, what is left pending, the marks, and what becomes of the position.
-pub fn told(alloc: Global, effect: &Effect) -> Result<String, Fail> {
-    let reply = match &effect.verdict {
-        Verdict::Answer(reply) => answer(alloc, reply)?,
-        Verdict::Park => format!(in alloc; "waits")?,
-    };
-    let commit = fixtures::changes(alloc, &effect.commit)?;
-    let pending = pending(alloc, &effect.pend)?;
-    let mark = marked(alloc, "marks", &effect.mark)?;
-    let unmark = marked(alloc, "unmarks", &effect.unmark)?;
-    let position = position(&effect.position);
-    Ok(format!(in alloc; "{reply} [{commit}]{pending}{mark}{unmark}{position}")?)
+fn put_verdict(out: &mut String, verdict: &Verdict) -> Result<(), AllocError> {
+    match verdict {
+        Verdict::Answer(reply) => put_reply(out, reply),
+        Verdict::Park => out.push_str("waits"),
+    }
+}
+
+fn put_commit(out: &mut String, commit: &List<Change>) -> Result<(), AllocError> {
+    out.push_str(" [")?;
+    fixtures::put_changes(out, commit, 0)?;
+    out.push_str("]")
+}
+
+fn put_effect(out: &mut String, effect: &Effect) -> Result<(), AllocError> {
+    put_verdict(out, &effect.verdict)?;
+    put_commit(out, &effect.commit)?;
+    put_pending(out, &effect.pend)?;
+    put_mark(out, "marks", &effect.mark)?;
+    put_mark(out, "unmarks", &effect.unmark)?;
+    out.push_str(position(&effect.position))
+}
+
+/// Whether the reply, what is committed, what is left pending, the marks, and what becomes of the position, are that text.
+pub fn is_told(alloc: Global, effect: &Effect, text: &str) -> Result<bool, AllocError> {
+    let mut out = String::new(alloc);
+    put_effect(&mut out, effect)?;
+    Ok(out.as_str() == text)
 }

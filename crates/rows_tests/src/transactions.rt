@@ -4,37 +4,95 @@ ghost use Rattle.sessions.specs.Numbers.{IsLowest, IsAddable, IsPendable, IsCoun
 
 use crate::fixtures;
 use aq_base::DbId;
-use payload_records::List;
-use place_keys::SortList;
-use queue_rows::{MsgRow, Pending, QueueKind, QueueRow, SlotRow, SlotState, Tables};
+use payload_records::{List, Name};
+use place_keys::{Place, SortList};
+use queue_rows::{MsgRow, Pending, QueueKind, QueueRow, SlotRow, SlotState, TableRow, Tables};
+use rule_conditions::Facts;
 use sessions::{SessionState, commit_changes, rollback_changes};
-use std::alloc::Global;
+use std::alloc::{AllocError, Global};
+use std::process::Abort;
 use std::test::Fail;
 
 // ---- the tables, whose next group is 6: of message 3 a removal was rolled back once, which is the most
 
+fn add_table(tables: &mut List<TableRow>, alloc: Global) -> Result<(), Fail> {
+    let columns = SortList::by_enqueue_time(alloc)?;
+    let table = fixtures::table(alloc, columns)?;
+    tables.push(table)?;
+    Ok(())
+}
+
+// The queue, its kind, and how long a message waits whose removal was rolled back.
+type Delayed = (&'static str, QueueKind, u64);
+
+const QUEUES: [Delayed; 3] = [
+    ("q", QueueKind::Normal, 0),
+    ("slow", QueueKind::Normal, 4),
+    ("t_e", QueueKind::Exception, 0),
+];
+
+fn queue_of(name: Name, table: Name, kind: QueueKind, retry_delay: u64) -> QueueRow {
+    QueueRow {
+        name,
+        table,
+        kind,
+        enqueue: true,
+        dequeue: true,
+        max_retries: 1,
+        retry_delay,
+        retention: 0,
+        lowest: 0,
+    }
+}
+
+fn queue(alloc: Global, row: &Delayed) -> Result<QueueRow, Fail> {
+    let name = Name::read(alloc, row.0)?;
+    let table = Name::read(alloc, "t")?;
+    Ok(queue_of(name, table, row.1, row.2))
+}
+
+fn add_queues(queues: &mut List<QueueRow>, alloc: Global, rows: &[Delayed]) -> Result<(), Fail> {
+    for row in rows {
+        queues.push(queue(alloc, row)?)?;
+    }
+    Ok(())
+}
+
+fn slots(alloc: Global, slot: SlotRow) -> Result<List<SlotRow>, AllocError> {
+    let mut slots = List::new(alloc);
+    slots.push(slot)?;
+    Ok(slots)
+}
+
+// The message, its queue, and how often a removal of it was rolled back.
+type Retried = (u32, &'static str, u64);
+
+const MESSAGES: [Retried; 4] = [(1, "q", 0), (2, "slow", 0), (3, "q", 1), (4, "t_e", 0)];
+
+fn message(alloc: Global, row: &Retried) -> Result<MsgRow, Fail> {
+    let slots = slots(alloc, fixtures::slot(SlotState::Ready, row.2))?;
+    let queue = Name::read(alloc, row.1)?;
+    let place = Place::of(alloc, 0, &[3], u64::from(row.0))?;
+    let facts = fixtures::facts(alloc)?;
+    Ok(fixtures::message_of(row.0, queue, place, facts, None, slots))
+}
+
+fn add_messages(messages: &mut List<MsgRow>, alloc: Global, rows: &[Retried]) -> Result<(), Fail> {
+    for row in rows {
+        messages.push(message(alloc, row)?)?;
+    }
+    Ok(())
+}
+
+fn add_rows(tables: &mut Tables, alloc: Global) -> Result<(), Fail> {
+    add_table(&mut tables.tables, alloc)?;
+    add_queues(&mut tables.queues, alloc, &QUEUES)?;
+    add_messages(&mut tables.messages, alloc, &MESSAGES)
+}
+
 fn tables(alloc: Global) -> Result<Tables, Fail> {
     let mut tables = Tables::new(alloc);
-    let columns = SortList::by_enqueue_time(alloc)?;
-    tables.tables.push(fixtures::table(alloc, columns)?)?;
-    for (name, kind, delay) in [
-        ("q", QueueKind::Normal, 0),
-        ("slow", QueueKind::Normal, 4),
-        ("t_e", QueueKind::Exception, 0),
-    ] {
-        let mut queue = fixtures::queue(alloc, name, kind)?;
-        queue.max_retries = 1;
-        queue.retry_delay = delay;
-        tables.queues.push(queue)?;
-    }
-    for (id, queue, retries) in [(1, "q", 0), (2, "slow", 0), (3, "q", 1), (4, "t_e", 0)] {
-        let mut message = fixtures::message(alloc, id, queue, 0, 3)?;
-        message.slots.clear();
-        message
-            .slots
-            .push(fixtures::slot(SlotState::Ready, retries))?;
-        tables.messages.push(message)?;
-    }
+    add_rows(&mut tables, alloc)?;
     tables.transaction = 6;
     Ok(tables)
 }
@@ -49,29 +107,60 @@ enum Did {
     Remove(u64, u32),
 }
 
-fn addition(alloc: Global, id: u32, lane: i64, from: u64) -> Result<MsgRow, Fail> {
-    let mut message = fixtures::message(alloc, id, "q", lane, 3)?;
-    message.slots.clear();
-    message.slots.push(SlotRow {
+fn waiting(from: u64) -> SlotRow {
+    SlotRow {
+        name: None,
+        address: None,
+        state: SlotState::Waiting,
+        retries: 0,
         at: from,
-        ..fixtures::slot(SlotState::Waiting, 0)
-    })?;
-    message.enq = 3;
-    message.group = 0;
-    Ok(message)
+        expires: None,
+    }
+}
+
+fn addition_of(id: u32, queue: Name, place: Place, facts: Facts, slots: List<SlotRow>) -> MsgRow {
+    MsgRow {
+        id: u64::from(id),
+        queue,
+        place,
+        facts,
+        exception: None,
+        enq: 3,
+        group: 0,
+        moved: false,
+        slots,
+    }
+}
+
+fn addition(alloc: Global, id: u32, lane: i64, from: u64) -> Result<MsgRow, Fail> {
+    let slots = slots(alloc, waiting(from))?;
+    let queue = Name::read(alloc, "q")?;
+    let place = Place::of(alloc, lane, &[3], u64::from(id))?;
+    let facts = fixtures::facts(alloc)?;
+    Ok(addition_of(id, queue, place, facts, slots))
+}
+
+fn add(pending: &mut List<Pending>, alloc: Global, did: Did) -> Result<(), Fail> {
+    match did {
+        Did::Add(id, lane, from) => {
+            let row = addition(alloc, id, lane, from)?;
+            pending.push(Pending::Add(row))?;
+        }
+        Did::Remove(id, slot) => pending.push(Pending::Remove { id, slot })?,
+    }
+    Ok(())
+}
+
+fn add_all(pending: &mut List<Pending>, alloc: Global, did: &[Did]) -> Result<(), Fail> {
+    for one in did {
+        add(pending, alloc, *one)?;
+    }
+    Ok(())
 }
 
 fn session(alloc: Global, did: &[Did]) -> Result<SessionState, Fail> {
     let mut session = fixtures::session(alloc, DbId::Home);
-    for one in did {
-        session.pending.push(match one {
-            Did::Add(id, lane, from) => Pending::Add(addition(alloc, *id, *lane, *from)?),
-            Did::Remove(id, slot) => Pending::Remove {
-                id: *id,
-                slot: *slot,
-            },
-        })?;
-    }
+    add_all(&mut session.pending, alloc, did)?;
     Ok(session)
 }
 
@@ -124,7 +213,10 @@ fn are_countable(messages: &List<MsgRow>) -> bool
 
 // ---- commits at the moment 20
 
-const COMMITS: [(&[Did], &str); 6] = [
+// What a session did, and what that becomes.
+type Case = (&'static [Did], &'static str);
+
+const COMMITS: [Case; 6] = [
     // a session that only looked, also one that locked what it saw
     (&[], ""),
     (
@@ -148,25 +240,46 @@ const COMMITS: [(&[Did], &str); 6] = [
     (&[Did::Remove(7, 1)], "done 7.1 at 20;"),
 ];
 
-#[test]
-fn commits_add_and_remove(rt: HostRuntime) -> Result<(), Fail> {
-    let alloc = rt.alloc();
-    let tables = tables(alloc)?;
-    assert!(rt; are_low(&tables.queues));
-    assert!(rt; tables.transaction < 1000);
-    for (did, wanted) in COMMITS {
-        let session = session(alloc, did)?;
-        assert!(rt; session.pending.len() < 1000);
-        assert!(rt; are_pendable(&session.pending));
-        let all = commit_changes(&tables, &session, 20)?;
-        assert_eq!(rt; fixtures::changes(alloc, &all)?.as_str(), wanted);
+fn commits(
+    alloc: Global,
+    tables: &Tables,
+    session: &SessionState,
+    wanted: &str,
+) -> Result<bool, AllocError> {
+    let is_small = tables.transaction < 1000 && session.pending.len() < 1000;
+    if !is_small || !are_low(&tables.queues) || !are_pendable(&session.pending) {
+        return Ok(false);
+    }
+    let all = commit_changes(tables, session, 20)?;
+    fixtures::are_shown(alloc, &all, 0, wanted)
+}
+
+fn is_committed(alloc: Global, tables: &Tables, case: &Case) -> Result<bool, Fail> {
+    let session = session(alloc, case.0)?;
+    Ok(commits(alloc, tables, &session, case.1)?)
+}
+
+fn check_commits(
+    rt: &impl Abort,
+    alloc: Global,
+    tables: &Tables,
+    cases: &[Case],
+) -> Result<(), Fail> {
+    for case in cases {
+        assert!(rt; is_committed(alloc, tables, case)?, "{}", case.1);
     }
     Ok(())
 }
 
+#[test]
+fn commits_add_and_remove(rt: HostRuntime) -> Result<(), Fail> {
+    let tables = tables(rt.alloc())?;
+    check_commits(&rt, rt.alloc(), &tables, &COMMITS)
+}
+
 // ---- rollbacks at the moment 20
 
-const ROLLBACKS: [(&[Did], &str); 7] = [
+const ROLLBACKS: [Case; 7] = [
     (&[], ""),
     (&[Did::Add(8, 0, 5)], ""),
     (&[Did::Remove(1, 1)], "retried 1 x1;"),
@@ -182,16 +295,38 @@ const ROLLBACKS: [(&[Did], &str); 7] = [
     (&[Did::Remove(1, 2)], ""),
 ];
 
-#[test]
-fn rollbacks_count_retries(rt: HostRuntime) -> Result<(), Fail> {
-    let alloc = rt.alloc();
-    let tables = tables(alloc)?;
-    assert!(rt; are_delaying(&tables.queues));
-    assert!(rt; are_countable(&tables.messages));
-    for (did, wanted) in ROLLBACKS {
-        let session = session(alloc, did)?;
-        let all = rollback_changes(&tables, &session, 20)?;
-        assert_eq!(rt; fixtures::changes(alloc, &all)?.as_str(), wanted);
+fn rolls_back(
+    alloc: Global,
+    tables: &Tables,
+    session: &SessionState,
+    wanted: &str,
+) -> Result<bool, AllocError> {
+    if !are_delaying(&tables.queues) || !are_countable(&tables.messages) {
+        return Ok(false);
+    }
+    let all = rollback_changes(tables, session, 20)?;
+    fixtures::are_shown(alloc, &all, 0, wanted)
+}
+
+fn is_rolled_back(alloc: Global, tables: &Tables, case: &Case) -> Result<bool, Fail> {
+    let session = session(alloc, case.0)?;
+    Ok(rolls_back(alloc, tables, &session, case.1)?)
+}
+
+fn check_rollbacks(
+    rt: &impl Abort,
+    alloc: Global,
+    tables: &Tables,
+    cases: &[Case],
+) -> Result<(), Fail> {
+    for case in cases {
+        assert!(rt; is_rolled_back(alloc, tables, case)?, "{}", case.1);
     }
     Ok(())
+}
+
+#[test]
+fn rollbacks_count_retries(rt: HostRuntime) -> Result<(), Fail> {
+    let tables = tables(rt.alloc())?;
+    check_rollbacks(&rt, rt.alloc(), &tables, &ROLLBACKS)
 }
