@@ -240,7 +240,7 @@ quiet_open id slot moment s true e h =
     rw (e, over, parts.0) refl
 quiet_open id slot moment s false e h = rw e refl
 
-quiet_if : (id slot moment : ℕ) (s : SlotRow) (b : Bool) → is_quiet s ≡ true → (if b then [] else due_change id slot s moment) ≡ []
+pub quiet_if : (id slot moment : ℕ) (s : SlotRow) (b : Bool) → is_quiet s ≡ true → (if b then [] else due_change id slot s moment) ≡ []
 quiet_if id slot moment s true h = refl
 quiet_if id slot moment s false h = quiet_open id slot moment s (is_open s.state) refl h
 

@@ -42,7 +42,7 @@ own_settling_by : (id : ℕ) (queue : List ℕ) (at : ℕ) (b c : Bool) → list
 own_settling_by id queue at true c = and_from (id == id) true (eq-eqb id id refl) refl
 own_settling_by id queue at false c = own_purge_by id c
 
-own_settling : (t : Tables) (at : ℕ) (r : MsgRow) → list_all (is_of r.id) (settling_of t at (Some r)) ≡ true
+pub own_settling : (t : Tables) (at : ℕ) (r : MsgRow) → list_all (is_of r.id) (settling_of t at (Some r)) ≡ true
 own_settling t at r = own_settling_by r.id (exception_queue_of t r) at (is_lost r) (is_handled r && is_kept_by_none t r)
 
 naming_settling : (t : Tables) (at : ℕ) (o : Option MsgRow) → list_all is_naming (settling_of t at o) ≡ true

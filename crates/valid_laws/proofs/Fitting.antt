@@ -32,6 +32,8 @@ use Rattle.valid_laws.proofs.Doing.{all-append}
 use Rattle.valid_laws.proofs.Still.{valid_closed}
 use Rattle.valid_laws.proofs.Parts.{and_l, and_r, valid_messages, all_found, parts_of, valid_from, six_parts, six_from}
 use Rattle.valid_laws.proofs.Slotted.{slot_keeps_valid}
+use Rattle.valid_laws.proofs.Putting.{put_is_valid}
+use Rattle.valid_laws.proofs.Subscribing.{sub_put, sub_dropped, schedule_put, schedule_dropped}
 use Rattle.valid_laws.proofs.Moving.{moved_keeps_valid}
 use Rattle.valid_laws.proofs.Keeping.{purged_keeps_valid}
 
@@ -61,7 +63,7 @@ slots_known t id m queue v e g =
     known_in t queue (find_table t queue.table) m (subst (λ o. is_valid_message_at t o m ≡ true) g h)
 
 -- of a moved message only slot 0 is open
-open_is_zero : (t : Tables) (id slot : ℕ) (m : MsgRow) (s : SlotRow) (b : Bool) → (slot == 0) ≡ b → is_valid t ≡ true → find_message t id ≡ Some m → m.moved ≡ true → slot_of m slot ≡ Some s → is_open s.state ≡ true → slot ≡ 0
+pub open_is_zero : (t : Tables) (id slot : ℕ) (m : MsgRow) (s : SlotRow) (b : Bool) → (slot == 0) ≡ b → is_valid t ≡ true → find_message t id ≡ Some m → m.moved ≡ true → slot_of m slot ≡ Some s → is_open s.state ≡ true → slot ≡ 0
 open_is_zero t id slot m s true e v f u g h = eqb-true slot 0 e
 open_is_zero t id slot m s false e v f u g h = absurd (true≢false (sym h ∙ closed_there))
   where
@@ -81,7 +83,7 @@ zero_expiry : (o : Option SlotRow) (s : SlotRow) → is_right_slot_zero o ≡ tr
 zero_expiry None s h e = absurd (none-some s e)
 zero_expiry (Some x) s h e = let same : x ≡ s = cc in ap (λ y. is_none y.expires) (sym same) ∙ (and_parts (is_ready x.state || is_processed x.state) (is_none x.expires) h).1
 
-moved_zero : (m : MsgRow) → m.moved ≡ true → is_right_if_moved m ≡ true → is_right_slot_zero (slot_of m 0) ≡ true
+pub moved_zero : (m : MsgRow) → m.moved ≡ true → is_right_if_moved m ≡ true → is_right_slot_zero (slot_of m 0) ≡ true
 moved_zero m u h =
     let g : (list_all (λ s. not (is_open s.state)) (recipient_slots m) && is_right_slot_zero (slot_of m 0)) ≡ true = only_right m.moved (list_all (λ s. not (is_open s.state)) (recipient_slots m) && is_right_slot_zero (slot_of m 0)) u h in
     (and_parts (list_all (λ s. not (is_open s.state)) (recipient_slots m)) (is_right_slot_zero (slot_of m 0)) g).1
@@ -92,21 +94,21 @@ moved_zero m u h =
 
 -- ---- a slot in another state
 
-unmoved_row : (t : Tables) (id : ℕ) (m : MsgRow) → is_unmoved_at t id ≡ true → find_message t id ≡ Some m → m.moved ≡ false
+pub unmoved_row : (t : Tables) (id : ℕ) (m : MsgRow) → is_unmoved_at t id ≡ true → find_message t id ≡ Some m → m.moved ≡ false
 unmoved_row t id m h e =
     let x = found_with t id (λ r. not r.moved) h in
     let same : x.0 ≡ m = (let s : Some x.0 ≡ Some m = sym x.1 ∙ e in cc) in
     not-true m.moved (subst (λ r. not r.moved ≡ true) same x.2)
 
-retried_name : (retries : ℕ) (until : Option ℕ) (at : ℕ) (s : SlotRow) → (retried retries until at s).name ≡ s.name
+pub retried_name : (retries : ℕ) (until : Option ℕ) (at : ℕ) (s : SlotRow) → (retried retries until at s).name ≡ s.name
 retried_name retries None at s = refl
 retried_name retries (Some n) at s = refl
 
-retried_address : (retries : ℕ) (until : Option ℕ) (at : ℕ) (s : SlotRow) → (retried retries until at s).address ≡ s.address
+pub retried_address : (retries : ℕ) (until : Option ℕ) (at : ℕ) (s : SlotRow) → (retried retries until at s).address ≡ s.address
 retried_address retries None at s = refl
 retried_address retries (Some n) at s = refl
 
-retried_retries : (retries : ℕ) (until : Option ℕ) (at : ℕ) (s : SlotRow) → (retried retries until at s).retries ≡ retries
+pub retried_retries : (retries : ℕ) (until : Option ℕ) (at : ℕ) (s : SlotRow) → (retried retries until at s).retries ≡ retries
 retried_retries retries None at s = refl
 retried_retries retries (Some n) at s = refl
 
@@ -225,12 +227,12 @@ retries_part t queue h = search (and_l, and_r) depth 7
 
 -- ---- any such change
 
-open_has_slot : (t : Tables) (id slot : ℕ) → is_open_at t id slot ≡ true → has_slot_at t id slot ≡ true
+pub open_has_slot : (t : Tables) (id slot : ℕ) → is_open_at t id slot ≡ true → has_slot_at t id slot ≡ true
 open_has_slot t id slot h =
     let x = open_at t id slot h in
     ap (λ o. option_map_or (λ m. has_slot m slot) o false) x.found ∙ has_if_some x.message slot x.open_there.row (has_slot x.message slot) refl x.open_there.there
 
-max_retries_of : (t : Tables) (id : ℕ) (m : MsgRow) (queue : QueueRow) → is_valid t ≡ true → find_queue t m.queue ≡ Some queue → queue.max_retries ≤ MAX_RETRIES_LIMIT
+pub max_retries_of : (t : Tables) (id : ℕ) (m : MsgRow) (queue : QueueRow) → is_valid t ≡ true → find_queue t m.queue ≡ Some queue → queue.max_retries ≤ MAX_RETRIES_LIMIT
 max_retries_of t id m queue v e =
     let h : is_valid_queue t queue ≡ true = all_found (is_valid_queue t) (λ r. bytes_eq r.name m.queue) t.queues queue (parts_of t v).queues e in
     leb-true queue.max_retries MAX_RETRIES_LIMIT (retries_part t queue h)
@@ -250,11 +252,16 @@ change_keeps_valid t (changes.Retried id slot retries until at) v k =
       slot_keeps_valid t id slot (retried retries until at) v (λ m queue e g. retried_may t id slot v o.is_open_there retries until at o.in_time u.unmoved m queue e g (k.few m queue e g) (retries_small retries queue.max_retries (k.few m queue e g) (max_retries_of t id m queue v g))),
       open_has_slot t id slot o.is_open_there,
     )
+change_keeps_valid t (changes.Enqueued row) v k = (put_is_valid t v row k, ap is_none k.new)
 change_keeps_valid t (changes.Purged id) v k = (purged_keeps_valid t id v, k)
 change_keeps_valid t (changes.Seen row) v k = (seen_keeps_valid t row v k, not_from_false (list_any (is_same_seen row) t.seen) k.unseen)
 change_keeps_valid t (changes.Moved id queue at) v k = (
   moved_keeps_valid t id queue at v k,
   and_from (is_unmoved_at t id) (is_some (find_queue t queue)) (ap (λ o. option_map_or (λ m. not m.moved) o false) k.found ∙ (and_parts (not k.message.moved) (is_finished k.message) k.may).0) (ap is_some k.to_is),
 )
+change_keeps_valid t (changes.PutSub row) v k = (sub_put t row v k, refl)
+change_keeps_valid t (changes.DropSub queue name) v k = (sub_dropped t queue name v, k)
+change_keeps_valid t (changes.PutSchedule row) v k = (schedule_put t row v k, refl)
+change_keeps_valid t (changes.DropSchedule queue to) v k = (schedule_dropped t queue to v, k)
 change_keeps_valid t (changes.PutTable row) v k = absurd k
 change_keeps_valid t _ v k = absurd k

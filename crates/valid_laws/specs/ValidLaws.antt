@@ -1,20 +1,24 @@
 -- The laws of valid tables and of due work.
-use Rattle.std.specs.Prelude.{◌≡◌, ◌≤◌, ◌<◌, ℕ, List, [], ◌∷◌, true, false, Option, Some, is_some}
-use Rattle.std.specs.List.{list_any}
+use Rattle.std.specs.Prelude.{◌≡◌, ◌≤◌, ◌<◌, ◌+◌, ℕ, pos, neg_ℤ, int_le, max, length, List, [], ◌∷◌, Bool, true, false, Option, Some, None, is_some}
+use Rattle.std.specs.List.{list_any, list_all}
 use Rattle.aq_base.specs.declared.DbId.{DbId}
-use Rattle.aq_base.specs.declared.limits.TheConstants.{MOMENT_LIMIT}
-use Rattle.queue_rows.specs.Rows.{find_message, find_queue, slot_of}
-use Rattle.queue_rows.specs.Tables.{after_change, changed_slot}
+use Rattle.aq_base.specs.declared.limits.TheConstants.{MOMENT_LIMIT, NEXT_LIMIT, SUBSCRIBER_LIMIT}
+use Rattle.queue_rows.specs.Rows.{find_message, find_queue, find_table, find_sub, find_schedule, table_of, slot_of}
+use Rattle.queue_rows.specs.Tables.{after_change, changed_slot, is_grouped, lane_of}
 use Rattle.queue_rows.specs.Session.{Session}
 use Rattle.queue_rows.specs.World.{committed_tables}
 use Rattle.queue_rows.specs.Due.{due}
-use Rattle.queue_rows.specs.Valid.{is_valid, has_right_retries, has_allowed_retries, has_begun, is_right_slot_zero, is_same_seen}
+use Rattle.queue_rows.specs.Valid.{is_valid, has_right_retries, has_allowed_retries, has_begun, is_right_slot_zero, has_right_cells, has_right_place, has_right_props, has_right_slots, is_same_seen, takes_subscribers, is_right_rule, is_valid_schedule}
+use Rattle.queue_rows.specs.Recipients.{subscribers_of}
+use Rattle.queue_rows.specs.Within.{if_some}
 use Rattle.queue_rows.specs.Fits.{fits, is_unmoved_at, names_what_is_there}
-use Rattle.queue_rows.specs.Settling.{is_exception}
+use Rattle.queue_rows.specs.Settling.{is_exception, settled}
 use Rattle.queue_rows.specs.declared.tables.Tables.{Tables}
 use Rattle.queue_rows.specs.declared.rows.MsgRow.{MsgRow}
 use Rattle.queue_rows.specs.declared.rows.SlotRow.{SlotRow}
 use Rattle.queue_rows.specs.declared.rows.QueueRow.{QueueRow}
+use Rattle.queue_rows.specs.declared.rows.TableRow.{TableRow}
+use Rattle.queue_rows.specs.declared.rows.SubRow.{SubRow}
 use Rattle.queue_rows.specs.declared.rows.SeenRow.{SeenRow}
 use Rattle.queue_rows.specs.declared.change.Change.{Change}
 use Rattle.queue_rows.specs.declared.change.Change.TheVariants as changes
@@ -86,8 +90,37 @@ pub record Sees (t : Tables) (row : SeenRow) : Type 0 where
   pub behind : list_any (λ s. is_same_seen s row) t.seen ≡ false
   pub copy : row.copy < t.next
 
+-- The message that is put in is new, was never moved, and is right for its queue and table (but for its slots, which are right
+-- as those of a valid message are). Its id and group may be those that come next, and leave the numbers right; and, where the
+-- table is not grouped, its lane is not below the negated next id.
+pub record PutsRight (t : Tables) (row : MsgRow) : Type 0 where
+  pub queue : QueueRow
+  pub table : TableRow
+  pub new : find_message t row.id ≡ None
+  pub queue_is : find_queue t row.queue ≡ Some queue
+  pub table_is : find_table t queue.table ≡ Some table
+  pub normal : is_exception queue.kind ≡ false
+  pub unmoved : row.moved ≡ false
+  pub typed : has_right_cells table row ≡ true
+  pub place : has_right_place table row ≡ true
+  pub lane : is_grouped t.tables queue ≡ false → int_le (neg_ℤ (pos (max t.next (row.id + 1)))) (lane_of row.place) ≡ true
+  pub props : has_right_props row ≡ true
+  pub slots : has_right_slots t table queue row ≡ true
+  pub entered : row.enq ≤ t.latest
+  pub id : 1 ≤ row.id
+  pub id_within : row.id < NEXT_LIMIT
+  pub group : 1 ≤ row.group
+  pub groups : max t.transaction (row.group + 1) ≤ max t.next (row.id + 1)
+
+-- the subscriber's queue takes subscribers and has room for one more, and its rule is right for the queue's table
+pub record SubscribesRight (t : Tables) (row : SubRow) : Type 0 where
+  pub takes : takes_subscribers t row.queue ≡ true
+  pub room : length (subscribers_of t row.queue) < SUBSCRIBER_LIMIT
+  pub rule : if_some (is_right_rule (table_of t row.queue)) row.rule ≡ true
+
 -- what a change needs so that it keeps tables valid; of the other changes nothing is said here
 abbrev pub Keeps : Tables → Change → Type 0
+Keeps t (changes.Enqueued row) = PutsRight t row
 Keeps t (changes.Done id slot at) = ChangesOpen t id slot at
 Keeps t (changes.Ready id slot at) = ChangesOpen t id slot at
 Keeps t (changes.Expired id slot at) = ChangesUnmoved t id slot at
@@ -96,6 +129,10 @@ Keeps t (changes.Retried id slot retries until at) = Retries t id slot retries a
 Keeps t (changes.Moved id queue at) = MovesRight t id queue at
 Keeps t (changes.Purged id) = is_some (find_message t id) ≡ true
 Keeps t (changes.Seen row) = Sees t row
+Keeps t (changes.PutSub row) = SubscribesRight t row
+Keeps t (changes.DropSub queue name) = is_some (find_sub t queue name) ≡ true
+Keeps t (changes.PutSchedule row) = is_valid_schedule t row ≡ true
+Keeps t (changes.DropSchedule queue to) = is_some (find_schedule t queue to) ≡ true
 Keeps t _ = ⊥
 
 -- each change does, in the tables that those before it leave
@@ -112,3 +149,20 @@ ChangeKeepsValid = (t : Tables) (c : Change) → is_valid t ≡ true → Keeps t
 abbrev pub CommitFits : Type 0
 CommitFits = (t : Tables) (moment : ℕ) (cs : List Change) → is_valid t ≡ true → t.latest ≤ moment → moment ≤ MOMENT_LIMIT
     → AllKeep (record t { latest = moment }) cs → fits t (record { moment = moment; changes = cs }) ≡ true
+
+-- ---- what is settled
+
+-- it changes no queue but its lowest lane, takes none away, and sets no numbers
+abbrev pub keeps_queues : Change → Bool
+keeps_queues (changes.PutTable row) = false
+keeps_queues (changes.DropTable name) = false
+keeps_queues (changes.PutQueue row) = false
+keeps_queues (changes.DropQueue name) = false
+keeps_queues (changes.Counters next transaction latest) = false
+keeps_queues _ = true
+
+-- a commit of such changes fits with what they settle, where they leave queues as they are
+abbrev pub SettledFits : Type 0
+SettledFits = (t : Tables) (moment : ℕ) (cs : List Change) → is_valid t ≡ true → t.latest ≤ moment → moment ≤ MOMENT_LIMIT
+    → AllKeep (record t { latest = moment }) cs → list_all keeps_queues cs ≡ true
+    → fits t (record { moment = moment; changes = settled t cs }) ≡ true

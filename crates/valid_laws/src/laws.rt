@@ -1,9 +1,14 @@
 // Laws over the definitions of `queue_rows`, each a function without a body.
+ghost use Rattle.valid_laws.specs.ArrivalLaws.{ArrivalFits, ConfirmationFits};
+ghost use Rattle.valid_laws.specs.DueLaws.{DueFits};
+ghost use Rattle.valid_laws.specs.PendingLaws.{PendingFits, RemovalFits};
+ghost use Rattle.valid_laws.specs.RollbackLaws.{GivingUpKeepsValid, RollbackFits};
 ghost use Rattle.valid_laws.specs.ValidLaws.{
   ChangeKeepsValid,
   CommitFits,
   LaterIsValid,
   NothingDueAt,
+  SettledFits,
   SlotKeepsValid,
 };
 
@@ -30,4 +35,44 @@ pub fn change_keeps_valid()
 /// A commit fits whose changes have what they need, one after another.
 pub fn commit_fits()
     ensures { CommitFits }
+{}
+
+/// A commit of such changes fits with what they settle.
+pub fn settled_fits()
+    ensures { SettledFits }
+{}
+
+/// What a session has added and removed fits as one commit, with what it settles.
+pub fn pending_fits()
+    ensures { PendingFits }
+{}
+
+/// A removal at once of an open slot fits, with what it settles.
+pub fn removal_fits()
+    ensures { RemovalFits }
+{}
+
+/// A retry too many, with the expiry behind it, keeps valid tables valid, and names what is there.
+pub fn giving_up_keeps_valid()
+    ensures { GivingUpKeepsValid }
+{}
+
+/// What a rollback commits fits, with what it settles.
+pub fn rollback_fits()
+    ensures { RollbackFits }
+{}
+
+/// What is due at a database fits, with what it settles.
+pub fn due_fits()
+    ensures { DueFits }
+{}
+
+/// What an arrival takes in at its destination fits.
+pub fn arrival_fits()
+    ensures { ArrivalFits }
+{}
+
+/// The confirmation of a slot that was sent fits, with what it settles.
+pub fn confirmation_fits()
+    ensures { ConfirmationFits }
 {}

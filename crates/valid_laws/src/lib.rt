@@ -1,8 +1,13 @@
-//! Laws of valid tables: which changes keep them valid, which commits fit, and that nothing is due after due work.
+//! Laws of valid tables: which changes keep them valid, which commits fit, and that nothing is due after
+//! due work.
 //!
 //! Each law is a function with an empty body, whose clause is the law; a caller that calls it has it.
 #![tactic(auto)]
 
 mod laws;
 
-pub use laws::{change_keeps_valid, commit_fits, later_is_valid, nothing_due_at, slot_keeps_valid};
+pub use laws::{
+    arrival_fits, change_keeps_valid, commit_fits, confirmation_fits, due_fits,
+    giving_up_keeps_valid, later_is_valid, nothing_due_at, pending_fits, removal_fits,
+    rollback_fits, settled_fits, slot_keeps_valid,
+};
