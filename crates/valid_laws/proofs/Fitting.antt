@@ -32,6 +32,7 @@ use Rattle.valid_laws.proofs.Doing.{all-append}
 use Rattle.valid_laws.proofs.Still.{valid_closed}
 use Rattle.valid_laws.proofs.Parts.{and_l, and_r, valid_messages, all_found, parts_of, valid_from, six_parts, six_from}
 use Rattle.valid_laws.proofs.Slotted.{slot_keeps_valid}
+use Rattle.valid_laws.proofs.Cataloguing.{queue_put, queue_dropped}
 use Rattle.valid_laws.proofs.Putting.{put_is_valid}
 use Rattle.valid_laws.proofs.Subscribing.{sub_put, sub_dropped, schedule_put, schedule_dropped}
 use Rattle.valid_laws.proofs.Moving.{moved_keeps_valid}
@@ -259,6 +260,8 @@ change_keeps_valid t (changes.Moved id queue at) v k = (
   moved_keeps_valid t id queue at v k,
   and_from (is_unmoved_at t id) (is_some (find_queue t queue)) (ap (λ o. option_map_or (λ m. not m.moved) o false) k.found ∙ (and_parts (not k.message.moved) (is_finished k.message) k.may).0) (ap is_some k.to_is),
 )
+change_keeps_valid t (changes.PutQueue row) v k = (queue_put t row k v, refl)
+change_keeps_valid t (changes.DropQueue name) v k = (queue_dropped t name v k, ap is_some k.found)
 change_keeps_valid t (changes.PutSub row) v k = (sub_put t row v k, refl)
 change_keeps_valid t (changes.DropSub queue name) v k = (sub_dropped t queue name v, k)
 change_keeps_valid t (changes.PutSchedule row) v k = (schedule_put t row v k, refl)

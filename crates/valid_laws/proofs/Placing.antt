@@ -1,10 +1,11 @@
 -- A row that is put among its like, or taken away: what all rows are stays so, and they stay distinct.
-use Rattle.std.proofs.Common.{◌≡◌, ◌≤◌, ◌+◌, ℕ, suc, List, [], ◌∷◌, Bool, true, false, not, cond, ltb, length, refl, ap, ◌∙◌, arith, Option, Some, None}
-use Rattle.std.specs.Prelude.{position, filter, option_map, if◌then◌else◌}
+use Rattle.std.proofs.Common.{◌≡◌, ◌≤◌, ◌+◌, ℕ, suc, List, [], ◌∷◌, Bool, true, false, not, cond, ltb, length, refl, sym, ap, ◌∙◌, arith, Option, Some, None}
+use Rattle.std.specs.Prelude.{find, position, filter, option_map, if◌then◌else◌}
 use Rattle.std.specs.List.{list_any, list_all, prefix_len}
 use Rattle.std.proofs.lemmas.Bool.{lt-ltb, and_parts, and_from, or_parts, or_from, not-true, not_from_false}
 use Rattle.queue_rows.specs.Rows.{put_at, put_by, removed_first}
 use Rattle.queue_rows.specs.Distinct.{are_distinct}
+use Rattle.row_laws.proofs.Finding.{find-yes, find-no, filter-yes, filter-no}
 use Rattle.row_laws.proofs.Firsts.{removed_first-yes, removed_first-no}
 
 -- ---- where it goes
@@ -30,10 +31,10 @@ module _ {X : Type 0} (same : X → X → Bool) (row : X) where
   put_later x xs None = refl
   put_later x xs (Some i) = refl
 
-  put_by-yes : (x : X) (xs : List X) → same x row ≡ true → put_by same row (x ∷ xs) ≡ row ∷ xs
+  pub put_by-yes : (x : X) (xs : List X) → same x row ≡ true → put_by same row (x ∷ xs) ≡ row ∷ xs
   put_by-yes x xs e = ap (put_at row (x ∷ xs)) (position-yes (λ r. same r row) x xs e)
 
-  put_by-no : (x : X) (xs : List X) → same x row ≡ false → put_by same row (x ∷ xs) ≡ x ∷ put_by same row xs
+  pub put_by-no : (x : X) (xs : List X) → same x row ≡ false → put_by same row (x ∷ xs) ≡ x ∷ put_by same row xs
   put_by-no x xs e = ap (put_at row (x ∷ xs)) (position-no (λ r. same r row) x xs e) ∙ put_later x xs (position (λ r. same r row) xs)
 
   -- ---- what all of them are
@@ -169,3 +170,64 @@ module _ {X : Type 0} (same : X → X → Bool) (row : X) (p : X → Bool) where
     pub fewer_put : (xs : List X) → length (filter p (put_by same row xs)) ≤ length (filter p xs)
     fewer_put [] = none_put
     fewer_put (x ∷ xs) = fewer_put_step x xs (same x row) (p x) refl refl (fewer_put xs)
+
+-- what is found when one was put
+module _ {X : Type 0} (same : X → X → Bool) (row : X) (p : X → Bool) where
+  cong_step : (x : X) (xs ys : List X) (b : Bool) → p x ≡ b → find p xs ≡ find p ys → find p (x ∷ xs) ≡ find p (x ∷ ys)
+  cong_step x xs ys true e h = find-yes p x xs e ∙ sym (find-yes p x ys e)
+  cong_step x xs ys false e h = find-no p x xs e ∙ h ∙ sym (find-no p x ys e)
+
+  put_yes_step : p row ≡ true → ((x : X) → same x row ≡ false → p x ≡ false) → (x : X) (xs : List X) (b : Bool) → same x row ≡ b → find p (put_by same row xs) ≡ Some row → find p (put_by same row (x ∷ xs)) ≡ Some row
+  put_yes_step e k x xs true g ih = ap (find p) (put_by-yes same row x xs g) ∙ find-yes p row xs e
+  put_yes_step e k x xs false g ih = ap (find p) (put_by-no same row x xs g) ∙ find-no p x (put_by same row xs) (k x g) ∙ ih
+
+  pub find_put : p row ≡ true → ((x : X) → same x row ≡ false → p x ≡ false) → (xs : List X) → find p (put_by same row xs) ≡ Some row
+  find_put e k [] = find-yes p row [] e
+  find_put e k (x ∷ xs) = put_yes_step e k x xs (same x row) refl (find_put e k xs)
+
+  put_no_step : p row ≡ false → ((x : X) → same x row ≡ true → p x ≡ false) → (x : X) (xs : List X) (b : Bool) → same x row ≡ b → find p (put_by same row xs) ≡ find p xs → find p (put_by same row (x ∷ xs)) ≡ find p (x ∷ xs)
+  put_no_step e k x xs true g ih = ap (find p) (put_by-yes same row x xs g) ∙ find-no p row xs e ∙ sym (find-no p x xs (k x g))
+  put_no_step e k x xs false g ih = ap (find p) (put_by-no same row x xs g) ∙ cong_step x (put_by same row xs) xs (p x) refl ih
+
+  pub find_other_put : p row ≡ false → ((x : X) → same x row ≡ true → p x ≡ false) → (xs : List X) → find p (put_by same row xs) ≡ find p xs
+  find_other_put e k [] = find-no p row [] e
+  find_other_put e k (x ∷ xs) = put_no_step e k x xs (same x row) refl (find_other_put e k xs)
+
+-- ---- some rows alone
+
+module _ {X : Type 0} (r : X → Bool) where
+  all_filter_step : (q s : X → Bool) → ((x : X) → r x ≡ true → q x ≡ true → s x ≡ true) → (x : X) (xs : List X) (b : Bool) → r x ≡ b → list_all q (x ∷ xs) ≡ true → (list_all q xs ≡ true → list_all s (filter r xs) ≡ true) → list_all s (filter r (x ∷ xs)) ≡ true
+  all_filter_step q s k x xs true e h ih =
+      let p = and_parts (q x) (list_all q xs) h in ap (list_all s) (filter-yes r r x xs e) ∙ and_from (s x) (list_all s (filter r xs)) (k x e p.0) (ih p.1)
+  all_filter_step q s k x xs false e h ih = ap (list_all s) (filter-no r r x xs e) ∙ ih (and_parts (q x) (list_all q xs) h).1
+
+  pub all_filter : (q s : X → Bool) → ((x : X) → r x ≡ true → q x ≡ true → s x ≡ true) → (xs : List X) → list_all q xs ≡ true → list_all s (filter r xs) ≡ true
+  all_filter q s k [] h = refl
+  all_filter q s k (x ∷ xs) h = all_filter_step q s k x xs (r x) refl h (all_filter q s k xs)
+
+  any_filter_step : (q : X → Bool) (x : X) (xs : List X) (b : Bool) → r x ≡ b → list_any q (x ∷ xs) ≡ false → (list_any q xs ≡ false → list_any q (filter r xs) ≡ false) → list_any q (filter r (x ∷ xs)) ≡ false
+  any_filter_step q x xs true e h ih = let p = or_parts (q x) (list_any q xs) h in ap (list_any q) (filter-yes r r x xs e) ∙ or_from (q x) (list_any q (filter r xs)) p.0 (ih p.1)
+  any_filter_step q x xs false e h ih = ap (list_any q) (filter-no r r x xs e) ∙ ih (or_parts (q x) (list_any q xs) h).1
+
+  any_filter : (q : X → Bool) (xs : List X) → list_any q xs ≡ false → list_any q (filter r xs) ≡ false
+  any_filter q [] h = refl
+  any_filter q (x ∷ xs) h = any_filter_step q x xs (r x) refl h (any_filter q xs)
+
+  distinct_filter_step : (same : X → X → Bool) (x : X) (xs : List X) (b : Bool) → r x ≡ b → are_distinct same (x ∷ xs) ≡ true → (are_distinct same xs ≡ true → are_distinct same (filter r xs) ≡ true) → are_distinct same (filter r (x ∷ xs)) ≡ true
+  distinct_filter_step same x xs true e h ih =
+      let p = and_parts (not (list_any (same x) xs)) (are_distinct same xs) h in
+      ap (are_distinct same) (filter-yes r r x xs e)
+      ∙ and_from (not (list_any (same x) (filter r xs))) (are_distinct same (filter r xs)) (not_from_false (list_any (same x) (filter r xs)) (any_filter (same x) xs (not-true (list_any (same x) xs) p.0))) (ih p.1)
+  distinct_filter_step same x xs false e h ih = ap (are_distinct same) (filter-no r r x xs e) ∙ ih (and_parts (not (list_any (same x) xs)) (are_distinct same xs) h).1
+
+  pub distinct_filter : (same : X → X → Bool) (xs : List X) → are_distinct same xs ≡ true → are_distinct same (filter r xs) ≡ true
+  distinct_filter same [] h = refl
+  distinct_filter same (x ∷ xs) h = distinct_filter_step same x xs (r x) refl h (distinct_filter same xs)
+
+  fewer_filter_step : (p : X → Bool) (x : X) (xs : List X) (b : Bool) → r x ≡ b → length (filter p (filter r xs)) ≤ length (filter p xs) → length (filter p (filter r (x ∷ xs))) ≤ length (filter p (x ∷ xs))
+  fewer_filter_step p x xs true e h = let g = ap (λ ys. length (filter p ys)) (filter-yes r r x xs e) in let k = fewer_cons p p x (filter r xs) xs (p x) refl h in omega (arith, g, k)
+  fewer_filter_step p x xs false e h = let g = ap (λ ys. length (filter p ys)) (filter-no r r x xs e) in let k = fewer_tail p p x xs (p x) refl in omega (arith, g, k, h)
+
+  pub fewer_filter : (p : X → Bool) (xs : List X) → length (filter p (filter r xs)) ≤ length (filter p xs)
+  fewer_filter p [] = omega arith
+  fewer_filter p (x ∷ xs) = fewer_filter_step p x xs (r x) refl (fewer_filter p xs)

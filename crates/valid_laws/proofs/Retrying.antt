@@ -197,7 +197,7 @@ right_part t q table m h =
     let p2 = and_parts (is_right_queue m q && has_right_cells table m) (has_right_ids t m) p3.0 in
     (and_parts (is_right_queue m q) (has_right_cells table m) p2.0).0
 
-in_normal_unmoved : (t : Tables) (id : ℕ) (m : MsgRow) (q : QueueRow) → is_valid t ≡ true → find_message t id ≡ Some m → find_queue t m.queue ≡ Some q → is_exception q.kind ≡ false → m.moved ≡ false
+pub in_normal_unmoved : (t : Tables) (id : ℕ) (m : MsgRow) (q : QueueRow) → is_valid t ≡ true → find_message t id ≡ Some m → find_queue t m.queue ≡ Some q → is_exception q.kind ≡ false → m.moved ≡ false
 in_normal_unmoved t id m q v e g n =
     let home = home_of t id m v e in
     let same : home.queue ≡ q = (let s : Some home.queue ≡ Some q = sym home.queue_is ∙ g in cc) in

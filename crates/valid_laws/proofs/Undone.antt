@@ -146,16 +146,16 @@ module _ (t : Tables) (w : Watch) (x : MsgRow) (unmoved : x.moved ≡ false) (x_
     pub does : Does t x u cs
     pub at : At low (after_all u cs)
 
-  here_open : (slot : ℕ) (u : Tables) (a : At slot u) → is_open_slot slot x ≡ true → is_open_at u x.id slot ≡ true
+  pub here_open : (slot : ℕ) (u : Tables) (a : At slot u) → is_open_slot slot x ≡ true → is_open_at u x.id slot ≡ true
   here_open slot u a h = open_of u x.id slot a.row a.found (ap (λ o. option_map_or (λ s. is_open s.state) o false) (a.above slot (omega arith)) ∙ h)
 
-  here_unmoved : (u : Tables) → IsAlike t u → is_unmoved_at u x.id ≡ true
+  pub here_unmoved : (u : Tables) → IsAlike t u → is_unmoved_at u x.id ≡ true
   here_unmoved u k = let y = k.rows x.id x x_is in unmoved_of u x.id y.row y.is_row (y.moved ∙ unmoved)
 
-  in_time : (slot : ℕ) (u : Tables) → At slot u → w.moment ≤ u.latest
+  pub in_time : (slot : ℕ) (u : Tables) → At slot u → w.moment ≤ u.latest
   in_time slot u a = let e = a.latest in omega (arith, e)
 
-  changed_at : (slot : ℕ) (f : SlotRow → SlotRow) (u : Tables) (a : At slot u) → is_valid (changed_slot u x.id slot f) ≡ true → At (slot + 1) (changed_slot u x.id slot f)
+  pub changed_at : (slot : ℕ) (f : SlotRow → SlotRow) (u : Tables) (a : At slot u) → is_valid (changed_slot u x.id slot f) ≡ true → At (slot + 1) (changed_slot u x.id slot f)
   changed_at slot f u a v =
       let it : if_it a.row x.id (Some (with_slot slot f a.row)) ≡ Some (with_slot slot f a.row) = rw (eq-eqb a.row.id x.id (id_found u x.id a.row a.found)) refl in
       record {
@@ -167,7 +167,7 @@ module _ (t : Tables) (w : Watch) (x : MsgRow) (unmoved : x.moved ≡ false) (x_
         above = λ b le. slot_of-with_other slot b f a.row (λ same. absurd (omega (arith, le, same))) ∙ a.above b (omega (arith, le));
       }
 
-  others_changed : (slot : ℕ) (f : SlotRow → SlotRow) (u : Tables) (id : ℕ) → (x.id == id) ≡ false → find_message (changed_slot u x.id slot f) id ≡ find_message u id
+  pub others_changed : (slot : ℕ) (f : SlotRow → SlotRow) (u : Tables) (id : ℕ) → (x.id == id) ≡ false → find_message (changed_slot u x.id slot f) id ≡ find_message u id
   others_changed slot f u id e = find_other_changed (λ m. m.id == x.id) (with_slot slot f) (λ m. m.id == id) (λ m. refl) (ids_apart x.id id e) u.messages
 
   slot_does : (k : Kind) (slot : ℕ) (u : Tables) (a : At slot u) → (is_active k ≡ true → is_open_slot slot x ≡ true) → DoesAt (slot + 1) u (changes_by k x.id slot w.moment)
@@ -188,7 +188,7 @@ module _ (t : Tables) (w : Watch) (x : MsgRow) (unmoved : x.moved ≡ false) (x_
         at = changed_at slot (in_state states.Ready w.moment) u a goes.valid;
       }
 
-  does_append : (u : Tables) (cs ds : List Change) → Does t x u cs → Does t x (after_all u cs) ds → Does t x u (cs ++ ds)
+  pub does_append : (u : Tables) (cs ds : List Change) → Does t x u cs → Does t x (after_all u cs) ds → Does t x u (cs ++ ds)
   does_append u cs ds a b = record {
     goes = goes_on u cs ds a.goes b.goes;
     alike = subst (IsAlike t) (sym (after_append u cs ds)) b.alike;
@@ -214,7 +214,7 @@ module _ (t : Tables) (w : Watch) (x : MsgRow) (unmoved : x.moved ≡ false) (x_
 
 -- ---- all slots
 
-does_nothing : (t : Tables) (x : MsgRow) (u : Tables) → is_valid u ≡ true → IsAlike t u → Does t x u []
+pub does_nothing : (t : Tables) (x : MsgRow) (u : Tables) → is_valid u ≡ true → IsAlike t u → Does t x u []
 does_nothing t x u v k = record { goes = nothing_goes u v; alike = k; others = λ id e. refl }
 
 does_by : (t : Tables) (w : Watch) (x : MsgRow) (b : Bool) → x.moved ≡ b → is_valid t ≡ true → find_message t x.id ≡ Some x → (u : Tables) → is_valid u ≡ true → u.latest ≡ w.moment → IsAlike t u → find_message u x.id ≡ Some x → Does t x u (due_slots w x)
@@ -228,16 +228,22 @@ pub record SlotsGo (t u : Tables) (cs : List Change) : Type 0 where
 slots_go_on : (t : Tables) (u : Tables) (cs ds : List Change) → GoesWell u cs → SlotsGo t (after_all u cs) ds → SlotsGo t u (cs ++ ds)
 slots_go_on t u cs ds g k = record { goes = goes_on u cs ds g k.goes; alike = subst (IsAlike t) (sym (after_append u cs ds)) k.alike }
 
-all_slots : (t : Tables) (w : Watch) → is_valid t ≡ true → (xs : List MsgRow) (u : Tables) → is_valid u ≡ true → u.latest ≡ w.moment → IsAlike t u → AreIn t xs → AreIn u xs → are_distinct is_same_message xs ≡ true → SlotsGo t u (flat_map (due_slots w) xs)
-all_slots t w tv [] u v l k h g d = record { goes = nothing_goes u v; alike = k }
-all_slots t w tv (x ∷ xs) u v l k h g d =
+-- what is done for each message of a list
+pub all_do : (t : Tables) (moment : ℕ) (F : MsgRow → List Change)
+    → ((x : MsgRow) → find_message t x.id ≡ Some x → (u : Tables) → is_valid u ≡ true → u.latest ≡ moment → IsAlike t u → find_message u x.id ≡ Some x → Does t x u (F x))
+    → (xs : List MsgRow) (u : Tables) → is_valid u ≡ true → u.latest ≡ moment → IsAlike t u → AreIn t xs → AreIn u xs → are_distinct is_same_message xs ≡ true → SlotsGo t u (flat_map F xs)
+all_do t moment F does [] u v l k h g d = record { goes = nothing_goes u v; alike = k }
+all_do t moment F does (x ∷ xs) u v l k h g d =
     let p = and_parts (not (list_any (is_same_message x) xs)) (are_distinct is_same_message xs) d in
     let none = none_is x xs (not-true (list_any (is_same_message x) xs) p.0) in
-    let one = does_by t w x x.moved refl tv (All-head (λ m. find_message t m.id ≡ Some m) x xs h) u v l k (All-head (λ m. find_message u m.id ≡ Some m) x xs g) in
+    let one = does x (All-head (λ m. find_message t m.id ≡ Some m) x xs h) u v l k (All-head (λ m. find_message u m.id ≡ Some m) x xs g) in
     let behind = All-tail (λ m. find_message u m.id ≡ Some m) x xs g in
-    slots_go_on t u (due_slots w x) (flat_map (due_slots w) xs) one.goes
-    (all_slots t w tv xs (after_all u (due_slots w x)) one.goes.valid (latest_same (due_slots w x) u one.goes.uncounted ∙ l) one.alike
-    (All-tail (λ m. find_message t m.id ≡ Some m) x xs h) (λ i e lt. one.others (get_or xs i e).id (none i e lt) ∙ behind i e lt) p.1)
+    slots_go_on t u (F x) (flat_map F xs) one.goes
+    (all_do t moment F does xs (after_all u (F x)) one.goes.valid (latest_same (F x) u one.goes.uncounted ∙ l) one.alike (All-tail (λ m. find_message t m.id ≡ Some m) x xs h)
+    (λ i e lt. one.others (get_or xs i e).id (none i e lt) ∙ behind i e lt) p.1)
+
+all_slots : (t : Tables) (w : Watch) → is_valid t ≡ true → (xs : List MsgRow) (u : Tables) → is_valid u ≡ true → u.latest ≡ w.moment → IsAlike t u → AreIn t xs → AreIn u xs → are_distinct is_same_message xs ≡ true → SlotsGo t u (flat_map (due_slots w) xs)
+all_slots t w tv = all_do t w.moment (due_slots w) (λ x f u v l k g. does_by t w x x.moved refl tv f u v l k g)
 
 -- ---- messages that go
 

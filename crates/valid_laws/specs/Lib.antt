@@ -1,6 +1,9 @@
 pub mod ArrivalLaws
+pub mod CatalogueLaws
 pub mod DueLaws
+pub mod Examples
 pub mod Openness
 pub mod PendingLaws
 pub mod RollbackLaws
+pub mod SubscriberLaws
 pub mod ValidLaws

@@ -1,14 +1,15 @@
 -- The laws of valid tables and of due work.
 use Rattle.std.specs.Prelude.{◌≡◌, ◌≤◌, ◌<◌, ◌+◌, ℕ, pos, neg_ℤ, int_le, max, length, List, [], ◌∷◌, Bool, true, false, Option, Some, None, is_some}
 use Rattle.std.specs.List.{list_any, list_all}
+use Rattle.std.specs.Str.{bytes_eq}
 use Rattle.aq_base.specs.declared.DbId.{DbId}
 use Rattle.aq_base.specs.declared.limits.TheConstants.{MOMENT_LIMIT, NEXT_LIMIT, SUBSCRIBER_LIMIT}
-use Rattle.queue_rows.specs.Rows.{find_message, find_queue, find_table, find_sub, find_schedule, table_of, slot_of}
+use Rattle.queue_rows.specs.Rows.{find_message, find_queue, find_table, find_sub, find_schedule, table_of, exception_name, slot_of}
 use Rattle.queue_rows.specs.Tables.{after_change, changed_slot, is_grouped, lane_of}
 use Rattle.queue_rows.specs.Session.{Session}
 use Rattle.queue_rows.specs.World.{committed_tables}
 use Rattle.queue_rows.specs.Due.{due}
-use Rattle.queue_rows.specs.Valid.{is_valid, has_right_retries, has_allowed_retries, has_begun, is_right_slot_zero, has_right_cells, has_right_place, has_right_props, has_right_slots, is_same_seen, takes_subscribers, is_right_rule, is_valid_schedule}
+use Rattle.queue_rows.specs.Valid.{is_valid, has_right_retries, has_allowed_retries, has_begun, is_right_slot_zero, has_right_cells, has_right_place, has_right_props, has_right_slots, is_same_seen, takes_subscribers, is_right_rule, is_valid_queue, is_valid_schedule}
 use Rattle.queue_rows.specs.Recipients.{subscribers_of}
 use Rattle.queue_rows.specs.Within.{if_some}
 use Rattle.queue_rows.specs.Fits.{fits, is_unmoved_at, names_what_is_there}
@@ -118,6 +119,20 @@ pub record SubscribesRight (t : Tables) (row : SubRow) : Type 0 where
   pub room : length (subscribers_of t row.queue) < SUBSCRIBER_LIMIT
   pub rule : if_some (is_right_rule (table_of t row.queue)) row.rule ≡ true
 
+-- the row is a valid queue's, and where the queue is there, its table, kind, most retries and lowest lane stay
+pub record QueuePutsRight (t : Tables) (row : QueueRow) : Type 0 where
+  pub valid : is_valid_queue t row ≡ true
+  pub table : (old : QueueRow) → find_queue t row.name ≡ Some old → row.table ≡ old.table
+  pub kind : (old : QueueRow) → find_queue t row.name ≡ Some old → row.kind ≡ old.kind
+  pub retries : (old : QueueRow) → find_queue t row.name ≡ Some old → row.max_retries ≡ old.max_retries
+  pub lowest : (old : QueueRow) → find_queue t row.name ≡ Some old → row.lowest ≡ old.lowest
+
+-- the queue is there, and not the default exception queue of its table
+pub record QueueGoes (t : Tables) (name : List ℕ) : Type 0 where
+  pub queue : QueueRow
+  pub found : find_queue t name ≡ Some queue
+  pub further : bytes_eq name (exception_name queue.table) ≡ false
+
 -- what a change needs so that it keeps tables valid; of the other changes nothing is said here
 abbrev pub Keeps : Tables → Change → Type 0
 Keeps t (changes.Enqueued row) = PutsRight t row
@@ -129,6 +144,8 @@ Keeps t (changes.Retried id slot retries until at) = Retries t id slot retries a
 Keeps t (changes.Moved id queue at) = MovesRight t id queue at
 Keeps t (changes.Purged id) = is_some (find_message t id) ≡ true
 Keeps t (changes.Seen row) = Sees t row
+Keeps t (changes.PutQueue row) = QueuePutsRight t row
+Keeps t (changes.DropQueue name) = QueueGoes t name
 Keeps t (changes.PutSub row) = SubscribesRight t row
 Keeps t (changes.DropSub queue name) = is_some (find_sub t queue name) ≡ true
 Keeps t (changes.PutSchedule row) = is_valid_schedule t row ≡ true

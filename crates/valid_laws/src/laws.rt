@@ -1,8 +1,11 @@
 // Laws over the definitions of `queue_rows`, each a function without a body.
 ghost use Rattle.valid_laws.specs.ArrivalLaws.{ArrivalFits, ConfirmationFits};
+ghost use Rattle.valid_laws.specs.CatalogueLaws.{NewTableFits, OneChangeFits};
 ghost use Rattle.valid_laws.specs.DueLaws.{DueFits};
+ghost use Rattle.valid_laws.specs.Examples.{ExampleCommits, ExampleIsValid, ExampleRollsBack};
 ghost use Rattle.valid_laws.specs.PendingLaws.{PendingFits, RemovalFits};
 ghost use Rattle.valid_laws.specs.RollbackLaws.{GivingUpKeepsValid, RollbackFits};
+ghost use Rattle.valid_laws.specs.SubscriberLaws.{SubscriberRemovalFits};
 ghost use Rattle.valid_laws.specs.ValidLaws.{
   ChangeKeepsValid,
   CommitFits,
@@ -75,4 +78,34 @@ pub fn arrival_fits()
 /// The confirmation of a slot that was sent fits, with what it settles.
 pub fn confirmation_fits()
     ensures { ConfirmationFits }
+{}
+
+/// The removal of a subscriber fits, with what is dropped and what this settles.
+pub fn subscriber_removal_fits()
+    ensures { SubscriberRemovalFits }
+{}
+
+/// One change that has what it needs and names no message fits by itself.
+pub fn one_change_fits()
+    ensures { OneChangeFits }
+{}
+
+/// A new table fits together with its exception queue.
+pub fn new_table_fits()
+    ensures { NewTableFits }
+{}
+
+/// The tables of the example are valid.
+pub fn example_is_valid()
+    ensures { ExampleIsValid }
+{}
+
+/// In the example a commit of a removal lets the message go.
+pub fn example_commits()
+    ensures { ExampleCommits }
+{}
+
+/// In the example a rollback of a removal is one retry too many.
+pub fn example_rolls_back()
+    ensures { ExampleRollsBack }
 {}
