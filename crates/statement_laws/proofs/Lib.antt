@@ -1,0 +1,3 @@
+pub mod Among
+pub mod Marking
+pub mod Taking

@@ -1,0 +1,2 @@
+pub mod DequeueLaws
+pub mod Sessions

@@ -1,0 +1,8 @@
+//! Laws of statements: what they leave with their session is right, and what they commit fits.
+//!
+//! Each law is a function with an empty body, whose clause is the law; a caller that calls it has it.
+#![tactic(auto)]
+
+mod laws;
+
+pub use laws::dequeue_removes_open;
