@@ -1,2 +1,4 @@
 pub mod DequeueLaws
+pub mod EnqueueLaws
+pub mod KeepingLaws
 pub mod Sessions

@@ -1,7 +1,19 @@
 // Laws over the definitions of `queue_rows`, each a function without a body.
 ghost use Rattle.statement_laws.specs.DequeueLaws.{DequeueRemovesOpen};
+ghost use Rattle.statement_laws.specs.EnqueueLaws.{EnqueueAddsRight};
+ghost use Rattle.statement_laws.specs.KeepingLaws.{StatementsKeepPending};
+
+/// An enqueue adds a message that is right for its queue and table, with the id that it was given.
+pub fn enqueue_adds_right()
+    ensures { EnqueueAddsRight }
+{}
 
 /// A dequeue takes a slot that is open and that its session has not removed, and does so once.
 pub fn dequeue_removes_open()
     ensures { DequeueRemovesOpen }
+{}
+
+/// A statement leaves what was pending as it was, but for a commit and a rollback, which empty it.
+pub fn statements_keep_pending()
+    ensures { StatementsKeepPending }
 {}

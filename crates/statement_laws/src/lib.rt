@@ -5,4 +5,4 @@
 
 mod laws;
 
-pub use laws::dequeue_removes_open;
+pub use laws::{dequeue_removes_open, enqueue_adds_right, statements_keep_pending};
