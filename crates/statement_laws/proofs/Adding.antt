@@ -191,6 +191,14 @@ lowest_at_least u name r v e =
     let l : has_right_lowest u r ≡ true = lowest_part u r h in
     (and_parts (int_le r.lowest (pos 0)) (int_le (neg_ℤ (pos u.next)) r.lowest) l).1
 
+-- an id that the tables have not passed
+not_below : (id next : ℕ) (b : Bool) → nat_lt id next ≡ b → next ≤ id → nat_lt id next ≡ false
+not_below id next true g h = absurd (let x = ltb-true id next g in omega (arith, x, h))
+not_below id next false g h = g
+
+pub not_passed : (t : Tables) (next : ℕ) (m : MsgRow) → t.next ≤ next → m.id ≡ next → count_passed t.next (Add m ∷ []) ≡ 0
+not_passed t next m up e = ap (λ b. (if b then 1 else 0) + 0) (not_below m.id t.next (nat_lt m.id t.next) refl (omega (arith, e, up)))
+
 -- ---- the message
 
 module _ (t : Tables) (s : Session) (ask : Enqueue) (next moment : ℕ) (v : is_valid t ≡ true) (ordered : has_ordered_fields t ≡ true) (le : t.latest ≤ moment) (top : moment ≤ MOMENT_LIMIT) (up : t.next ≤ next) (within : is_within (statements.Enqueue ask) ≡ true) where
@@ -265,19 +273,12 @@ module _ (t : Tables) (s : Session) (ask : Enqueue) (next moment : ℕ) (v : is_
 
     -- ---- it is added
 
-    none_passed : (m : MsgRow) → m.id ≡ next → count_passed t.next (Add m ∷ []) ≡ 0
-    none_passed m e = ap (λ b. (if b then 1 else 0) + 0) (not_passed (nat_lt m.id t.next) refl)
-      where
-        not_passed : (b : Bool) → nat_lt m.id t.next ≡ b → nat_lt m.id t.next ≡ false
-        not_passed true g = absurd (let x = ltb-true m.id t.next g in omega (arith, x, e, up))
-        not_passed false g = g
-
     may_add : (m : MsgRow) → m.id ≡ next → IsAdditionRight t moment m → MayCommit t moment (Add m ∷ [])
     may_add m e k = record {
       right = All-cons (IsPendingRight t moment) (Add m) [] k (All-nil (IsPendingRight t moment));
       apart = λ i j d lt at. absurd (let no : j < 1 = at in omega (arith, lt));
-      lanes = λ name row g. let n = none_passed m e in let x = depth_known t.next row.lowest (lowest_at_least t name row v g) in omega (arith, n, x);
-      groups = λ some. absurd (let n = none_passed m e in omega (arith, n, some));
+      lanes = λ name row g. let n = not_passed t next m up e in let x = depth_known t.next row.lowest (lowest_at_least t name row v g) in omega (arith, n, x);
+      groups = λ some. absurd (let n = not_passed t next m up e in omega (arith, n, some));
     }
 
     adds_in : (m : MsgRow) → m.id ≡ next → m.queue ≡ ask.queue → IsAdditionRight t moment m → (visibility : Visibility) → ask.visibility ≡ visibility → Says Right (q.add visibility t s m moment)

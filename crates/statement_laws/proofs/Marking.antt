@@ -6,8 +6,9 @@ use Rattle.std.proofs.lemmas.Bool.{and_parts, or_parts, eqb-true}
 use Rattle.slot_marks.specs.Marks.{is_on, has_slot, kept_beside, taken}
 use Rattle.slot_marks.specs.declared.mark.Mark.{Mark}
 use Rattle.queue_rows.specs.Session.{marks_slot, without_mark}
+use Rattle.queue_rows.specs.declared.rows.MsgRow.{MsgRow}
 use Rattle.queue_rows.specs.declared.session.Pending.{Pending}
-use Rattle.queue_rows.specs.declared.session.Pending.TheVariants.{Remove}
+use Rattle.queue_rows.specs.declared.session.Pending.TheVariants.{Add, Remove}
 use Rattle.row_laws.proofs.Finding.{filter-yes, filter-no}
 use Rattle.statement_laws.specs.Sessions.{is_removal_of}
 use Rattle.statement_laws.proofs.Among.{any_last}
@@ -86,6 +87,10 @@ agree_locked mark marks pending e h id slot =
     taken_removes mark id slot marks
     ∙ ap (λ b. list_any (removes_at id slot) marks || (b && marks_slot id slot mark)) e
     ∙ or_off (list_any (removes_at id slot) marks) ∙ h id slot
+
+-- an addition removes nothing
+pub pending_agree : (id slot : ℕ) (pending : List Pending) (m : MsgRow) → list_any (is_removal_of id slot) (pending ++ Add m ∷ []) ≡ list_any (is_removal_of id slot) pending
+pending_agree id slot pending m = any_last (is_removal_of id slot) pending (Add m) ∙ or_off (list_any (is_removal_of id slot) pending)
 
 -- ---- the marks on a slot go
 

@@ -1,4 +1,5 @@
 pub mod DequeueLaws
 pub mod EnqueueLaws
 pub mod KeepingLaws
+pub mod SessionLaws
 pub mod Sessions

@@ -2,6 +2,13 @@
 ghost use Rattle.statement_laws.specs.DequeueLaws.{DequeueRemovesOpen};
 ghost use Rattle.statement_laws.specs.EnqueueLaws.{EnqueueAddsRight};
 ghost use Rattle.statement_laws.specs.KeepingLaws.{StatementsKeepPending};
+ghost use Rattle.statement_laws.specs.SessionLaws.{
+  CommitFitsForSessions,
+  DequeueKeepsEnd,
+  EnqueueKeepsEnd,
+  MayEndLater,
+  RollbackFitsForSessions,
+};
 
 /// An enqueue adds a message that is right for its queue and table, with the id that it was given.
 pub fn enqueue_adds_right()
@@ -16,4 +23,29 @@ pub fn dequeue_removes_open()
 /// A statement leaves what was pending as it was, but for a commit and a rollback, which empty it.
 pub fn statements_keep_pending()
     ensures { StatementsKeepPending }
+{}
+
+/// A session whose transaction may end may end it later, and with further ids given.
+pub fn may_end_later()
+    ensures { MayEndLater }
+{}
+
+/// After an enqueue such a session may still end its transaction.
+pub fn enqueue_keeps_end()
+    ensures { EnqueueKeepsEnd }
+{}
+
+/// After a dequeue such a session may still end its transaction.
+pub fn dequeue_keeps_end()
+    ensures { DequeueKeepsEnd }
+{}
+
+/// What a commit of such a session commits fits.
+pub fn commit_fits_for_sessions()
+    ensures { CommitFitsForSessions }
+{}
+
+/// What a rollback of such a session commits fits.
+pub fn rollback_fits_for_sessions()
+    ensures { RollbackFitsForSessions }
 {}

@@ -5,4 +5,7 @@
 
 mod laws;
 
-pub use laws::{dequeue_removes_open, enqueue_adds_right, statements_keep_pending};
+pub use laws::{
+    commit_fits_for_sessions, dequeue_keeps_end, dequeue_removes_open, enqueue_adds_right,
+    enqueue_keeps_end, may_end_later, rollback_fits_for_sessions, statements_keep_pending,
+};
