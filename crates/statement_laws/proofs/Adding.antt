@@ -185,7 +185,7 @@ first_id t v = let a = first_group t v in let b = (numbers_of t v).below in omeg
 lowest_part : (u : Tables) (r : QueueRow) → is_valid_queue u r ≡ true → has_right_lowest u r ≡ true
 lowest_part u r h = search (and_l, and_r)
 
-lowest_at_least : (u : Tables) (name : List ℕ) (r : QueueRow) → is_valid u ≡ true → find_queue u name ≡ Some r → int_le (neg_ℤ (pos u.next)) r.lowest ≡ true
+pub lowest_at_least : (u : Tables) (name : List ℕ) (r : QueueRow) → is_valid u ≡ true → find_queue u name ≡ Some r → int_le (neg_ℤ (pos u.next)) r.lowest ≡ true
 lowest_at_least u name r v e =
     let h : is_valid_queue u r ≡ true = all_found (is_valid_queue u) (λ x. bytes_eq x.name name) u.queues r (parts_of u v).queues e in
     let l : has_right_lowest u r ≡ true = lowest_part u r h in

@@ -30,6 +30,7 @@ use Rattle.queue_rows.specs.declared.statement.Visibility.{Visibility}
 use Rattle.queue_rows.specs.declared.statement.Visibility.TheVariants as visibilities
 use Rattle.valid_laws.specs.PendingLaws.{IsAdditionRight, IsPendingRight, AreApart, count_passed, MayCommit}
 use Rattle.valid_laws.specs.RollbackLaws.{IsRemovalOpen, AreOther, MayRollBack}
+use Rattle.valid_laws.proofs.Completing.{depth_known}
 use Rattle.valid_laws.proofs.Pending.{pending_fits}
 use Rattle.valid_laws.proofs.Retrying.{rollback_fits}
 use Rattle.statement_laws.specs.Sessions.{is_removal_of, MarksAgree}
@@ -38,8 +39,25 @@ use Rattle.statement_laws.specs.DequeueLaws.{MayTake, TakesIn, Takes}
 use Rattle.statement_laws.specs.SessionLaws.{IsGiven, MayEnd}
 use Rattle.statement_laws.proofs.Among.{Says, says_so, Each, each_not}
 use Rattle.statement_laws.proofs.Marking.{pending_agree}
-use Rattle.statement_laws.proofs.Adding.{enqueue_adds_right, not_passed}
+use Rattle.statement_laws.proofs.Adding.{enqueue_adds_right, lowest_at_least, not_passed}
 use Rattle.statement_laws.proofs.Taking.{dequeue_removes_open}
+
+-- ---- nothing
+
+may_commit_none : (t : Tables) (moment : ℕ) → is_valid t ≡ true → MayCommit t moment []
+may_commit_none t moment v = record {
+  right = All-nil (IsPendingRight t moment);
+  apart = λ i j d lt at. absurd (let no : j < 0 = at in omega arith);
+  lanes = λ name queue e. let x = depth_known t.next queue.lowest (lowest_at_least t name queue v e) in omega (arith, x);
+  groups = λ some. absurd (let no : 0 < 0 = some in omega arith);
+}
+
+pub empty_may_end : (t : Tables) (s : Session) (next moment : ℕ) → is_valid t ≡ true → s.pending ≡ [] → s.marks ≡ [] → MayEnd t next moment s
+empty_may_end t s next moment v p m = record {
+  commits = subst (MayCommit t moment) (sym p) (may_commit_none t moment v);
+  marks = record { removed = λ id slot. ap (list_any (λ mark. mark.removed && marks_slot id slot mark)) m ∙ sym (ap (list_any (is_removal_of id slot)) p) };
+  given = subst (All (IsGiven next)) (sym p) (All-nil (IsGiven next));
+}
 
 -- ---- later
 

@@ -1,5 +1,5 @@
 -- The laws of sessions whose transactions may end: what statements add to them keeps them so, and their ends fit.
-use Rattle.std.specs.Prelude.{◌≡◌, ◌≤◌, ◌<◌, ◌+◌, ℕ, List, true, All}
+use Rattle.std.specs.Prelude.{◌≡◌, ◌≤◌, ◌<◌, ◌+◌, ℕ, List, [], true, All}
 use Rattle.aq_base.specs.declared.limits.TheConstants.{MOMENT_LIMIT}
 use Rattle.queue_rows.specs.Session.{Session}
 use Rattle.queue_rows.specs.Meaning.{answers}
@@ -35,6 +35,10 @@ pub record MayEnd (t : Tables) (next moment : ℕ) (s : Session) : Type 0 where
   pub commits : MayCommit t moment s.pending
   pub marks : MarksAgree s
   pub given : All (IsGiven next) s.pending
+
+-- so it is of a session that has nothing pending and nothing marked, as when it begins and behind the end of a transaction
+abbrev pub EmptyMayEnd : Type 0
+EmptyMayEnd = (t : Tables) (s : Session) (next moment : ℕ) → is_valid t ≡ true → s.pending ≡ [] → s.marks ≡ [] → MayEnd t next moment s
 
 -- it stays so when time passes, and ids are given
 abbrev pub MayEndLater : Type 0

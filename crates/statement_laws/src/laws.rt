@@ -5,6 +5,7 @@ ghost use Rattle.statement_laws.specs.KeepingLaws.{StatementsKeepPending};
 ghost use Rattle.statement_laws.specs.SessionLaws.{
   CommitFitsForSessions,
   DequeueKeepsEnd,
+  EmptyMayEnd,
   EnqueueKeepsEnd,
   MayEndLater,
   RollbackFitsForSessions,
@@ -23,6 +24,11 @@ pub fn dequeue_removes_open()
 /// A statement leaves what was pending as it was, but for a commit and a rollback, which empty it.
 pub fn statements_keep_pending()
     ensures { StatementsKeepPending }
+{}
+
+/// The transaction of a session that has nothing pending and nothing marked may end.
+pub fn empty_may_end()
+    ensures { EmptyMayEnd }
 {}
 
 /// A session whose transaction may end may end it later, and with further ids given.

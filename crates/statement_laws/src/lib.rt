@@ -6,6 +6,7 @@
 mod laws;
 
 pub use laws::{
-    commit_fits_for_sessions, dequeue_keeps_end, dequeue_removes_open, enqueue_adds_right,
-    enqueue_keeps_end, may_end_later, rollback_fits_for_sessions, statements_keep_pending,
+    commit_fits_for_sessions, dequeue_keeps_end, dequeue_removes_open, empty_may_end,
+    enqueue_adds_right, enqueue_keeps_end, may_end_later, rollback_fits_for_sessions,
+    statements_keep_pending,
 };
