@@ -42,6 +42,13 @@ fn bytes_of(alloc: Global, disk: &MemoryDisk) -> Result<Vec<u8>, AllocError> {
     disk.image(alloc, disk.calls(), Fill::New)
 }
 
+// Before anything was written, an empty disk has no bytes as its image.
+fn has_no_bytes(alloc: Global) -> Result<bool, AllocError> {
+    let disk = disk_of(alloc, b"", &[])?;
+    let image = disk.image(alloc, 0, Fill::New)?;
+    Ok(image.is_empty())
+}
+
 // A journal is begun on an empty disk, and the commit is appended.
 fn grows(alloc: Global) -> Result<bool, AllocError> {
     let Ok((mut journal, frames)) = Journal::mount(alloc, disk_of(alloc, b"", &[])?) else {
@@ -119,6 +126,7 @@ fn is_there_again(alloc: Global, disk: MemoryDisk) -> Result<bool, AllocError> {
 #[test]
 fn rows_of_bytes(rt: HostRuntime) -> Result<(), AllocError> {
     let alloc = rt.alloc();
+    assert!(rt; has_no_bytes(alloc)?);
     assert!(rt; grows(alloc)?);
     assert!(rt; is_compacted(alloc)?);
     Ok(())
