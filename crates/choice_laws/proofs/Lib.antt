@@ -1,0 +1,10 @@
+pub mod Available
+pub mod Chosen
+pub mod Edited
+pub mod Looking
+pub mod Nearest
+pub mod Orders
+pub mod Putting
+pub mod Searching
+pub mod Shown
+pub mod Standing

@@ -1,0 +1,5 @@
+use Rattle.choice_laws.proofs.Edited.{rows_after_push}
+use Rattle.choice_laws.proofs.laws.rows_after_push.Goals as goal
+
+pub returns : goal.returns
+returns c = rows_after_push

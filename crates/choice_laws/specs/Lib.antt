@@ -1,0 +1,7 @@
+pub mod ChoiceLaws
+pub mod Choosing
+pub mod EditLaws
+pub mod Entries
+pub mod Examples
+pub mod LookLaws
+pub mod ShownLaws
