@@ -126,6 +126,15 @@ module _ (queue : List ℕ) (consumer : Option (List ℕ)) where
       ap (with_row (stands x) (row_of x)) (rows_after_change xs i e m rising.1 there keeps)
       ∙ move_other (stands e) (stands_for queue consumer m) (stands x) (row_of x) (row_of e) (rows xs) (rows_rise queue consumer xs rising.1) (differs x xs i e rising.0 there)
 
+  moved_nowhere : (b : Bool) (row : Row) (xs : List Row) → moved_row b b row xs ≡ xs
+  moved_nowhere true row xs = refl
+  moved_nowhere false row xs = refl
+
+  pub rows_stay : (entries : List Entry) (at : ℕ) (e : Entry) (m : MsgRow) → AreRising entries → slice_get entries at ≡ Some e → m.place ≡ e.message.place
+      → stands_for queue consumer m ≡ stands e → rows (with_message entries at e m) ≡ rows entries
+  rows_stay entries at e m rising there keeps alike =
+      rows_after_change entries at e m rising there keeps ∙ ap (λ b. moved_row (stands e) b (row_of e) (rows entries)) alike ∙ moved_nowhere (stands e) (row_of e) (rows entries)
+
   -- ---- a queue's messages go
 
   module _ (dropped : List ℕ) where

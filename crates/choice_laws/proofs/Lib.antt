@@ -1,6 +1,7 @@
 pub mod Available
 pub mod Chosen
 pub mod Edited
+pub mod Going
 pub mod Looking
 pub mod Nearest
 pub mod Orders

@@ -9,6 +9,7 @@ use Rattle.row_tree.specs.Order.{IsRising}
 use Rattle.row_tree.proofs.Rising.{rising_put}
 use Rattle.queue_rows.specs.declared.rows.MsgRow.{MsgRow}
 use Rattle.choice_laws.specs.Entries.{Entry, Row, AreAbove, AreRising, message_at, row_cmp, row_of, rows_for, stands_for, with_row}
+use Rattle.choice_laws.specs.ChoiceLaws.{LeadsTo}
 use Rattle.choice_laws.proofs.Orders.{row_cmp_total, untied}
 use Rattle.choice_laws.proofs.Putting.{all_put, all_weaker}
 
@@ -22,6 +23,16 @@ module _ (queue : List ℕ) (consumer : Option (List ℕ)) where
         | true ↦ all_put P row_cmp (row_of e) (rows_for queue consumer es) h.0 (rows_all P es h.1)
         | false ↦ rows_all P es h.1
       ]
+
+  -- and what holds of the row of each entry that stands there
+  pub rows_all_standing : (P : Row → Type 0) (es : List Entry) → AllByRecursion (λ e. stands_for queue consumer e.message ≡ true → P (row_of e)) es → AllByRecursion P (rows_for queue consumer es)
+  rows_all_standing P [] h = tt
+  rows_all_standing P (e ∷ es) h =
+      let Q : Bool → Type 0 = λ b. stands_for queue consumer e.message ≡ b → AllByRecursion P (with_row b (row_of e) (rows_for queue consumer es)) in
+      elim (stands_for queue consumer e.message) as Q [
+        | true ↦ λ stands. all_put P row_cmp (row_of e) (rows_for queue consumer es) (h.0 stands) (rows_all_standing P es h.1)
+        | false ↦ λ stands. rows_all_standing P es h.1
+      ] refl
 
   pub rows_above : (n : ℕ) (es : List Entry) → AreAbove n es → AllByRecursion (λ r. n < r.stamp) (rows_for queue consumer es)
   rows_above n es h = rows_all (λ r. n < r.stamp) es h
@@ -75,3 +86,11 @@ pub rows_have : (queue : List ℕ) (consumer : Option (List ℕ)) (look : ℕ �
 rows_have queue consumer look es found =
     rows_all queue consumer (HasMessage look) es
     (all_weaker (λ e. look e.stamp ≡ Some e.message) (λ e. HasMessage look (row_of e)) (λ e is. record { message = e.message; is = is; place = refl }) es found)
+
+-- each row leads to its message
+pub rows_lead : (queue : List ℕ) (consumer : Option (List ℕ)) (entries : List Entry) → AreRising entries → All (LeadsTo queue consumer entries) (rows_for queue consumer entries)
+rows_lead queue consumer entries rising =
+    All-from_recursion (LeadsTo queue consumer entries) (rows_for queue consumer entries)
+    (rows_all_standing queue consumer (LeadsTo queue consumer entries) entries
+    (all_weaker (λ e. message_at entries e.stamp ≡ Some e.message) (λ e. stands_for queue consumer e.message ≡ true → LeadsTo queue consumer entries (row_of e))
+    (λ e is stands. record { message = e.message; is = is; place = refl; stands = stands }) entries (are_found entries rising)))

@@ -1,10 +1,11 @@
 -- The laws of choosing: the first row that passes is the message that the definitions choose.
-use Rattle.std.specs.Prelude.{◌≡◌, ℕ, ℤ, Bool, true, List, Option, filter}
+use Rattle.std.specs.Prelude.{◌≡◌, ℕ, ℤ, Bool, true, List, Option, Some, filter}
+use Rattle.std.specs.List.{All}
 use Rattle.row_tree.specs.Order.{IsRising}
 use Rattle.place_keys.specs.Place.{stands_before}
 use Rattle.queue_rows.specs.Dequeueing.{Look, is_available, least, chosen}
 use Rattle.queue_rows.specs.declared.rows.MsgRow.{MsgRow}
-use Rattle.choice_laws.specs.Entries.{Entry, AreRising, messages_of, row_cmp, rows_for, rows_past, stands_for}
+use Rattle.choice_laws.specs.Entries.{Entry, Row, AreRising, message_at, messages_of, row_cmp, rows_for, rows_past, stands_for}
 use Rattle.choice_laws.specs.Choosing.{chosen_in_rows, first_passing}
 
 -- each message that passes the test stands in the queue and has a ready slot for the consumer
@@ -18,6 +19,17 @@ AvailableStandFor = (l : Look) → AreAllIn l.queue.name l.ask.consumer (is_avai
 -- the rows stand in their order, no two alike
 abbrev pub RowsRise : Type 0
 RowsRise = (queue : List ℕ) (consumer : Option (List ℕ)) (entries : List Entry) → AreRising entries → IsRising row_cmp (rows_for queue consumer entries)
+
+-- a row leads to a message that stands in the queue, has a ready slot for the consumer, and stands at the row's place
+pub record LeadsTo (queue : List ℕ) (consumer : Option (List ℕ)) (entries : List Entry) (r : Row) : Type 0 where
+  pub message : MsgRow
+  pub is : message_at entries r.stamp ≡ Some message
+  pub place : message.place ≡ r.place
+  pub stands : stands_for queue consumer message ≡ true
+
+-- so does each row
+abbrev pub RowsLead : Type 0
+RowsLead = (queue : List ℕ) (consumer : Option (List ℕ)) (entries : List Entry) → AreRising entries → All (LeadsTo queue consumer entries) (rows_for queue consumer entries)
 
 -- the first row that passes is the message with the least place of those that pass, of equal ones the first in the list
 abbrev pub FirstIsLeast : Type 0

@@ -22,6 +22,12 @@ RowsAfterChange = (queue : List ℕ) (consumer : Option (List ℕ)) (entries : L
     → AreRising entries → slice_get entries at ≡ Some e → m.place ≡ e.message.place
     → rows_for queue consumer (with_message entries at e m) ≡ moved_row (stands_for queue consumer e.message) (stands_for queue consumer m) (row_of e) (rows_for queue consumer entries)
 
+-- so rows stay where it stands there now as before
+abbrev pub RowsStay : Type 0
+RowsStay = (queue : List ℕ) (consumer : Option (List ℕ)) (entries : List Entry) (at : ℕ) (e : Entry) (m : MsgRow)
+    → AreRising entries → slice_get entries at ≡ Some e → m.place ≡ e.message.place → stands_for queue consumer m ≡ stands_for queue consumer e.message
+    → rows_for queue consumer (with_message entries at e m) ≡ rows_for queue consumer entries
+
 -- a queue whose messages go has no rows, and each other queue keeps its rows
 abbrev pub RowsAfterDrop : Type 0
 RowsAfterDrop = (queue : List ℕ) (consumer : Option (List ℕ)) (entries : List Entry) (dropped : List ℕ)

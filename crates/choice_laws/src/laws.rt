@@ -1,7 +1,8 @@
 // Laws over the definitions of `queue_rows`, each a function without a body.
-ghost use Rattle.choice_laws.specs.ChoiceLaws.{AvailableStandFor, ChosenInRows, FirstIsLeast, FirstPastIsLeast, RowsRise};
-ghost use Rattle.choice_laws.specs.EditLaws.{MissingRowIsFree, NewRowIsFree, RowsAfterChange, RowsAfterDrop, RowsAfterPush, RowsAfterRemoval, StampsRise, StampsStayBelow};
+ghost use Rattle.choice_laws.specs.ChoiceLaws.{AvailableStandFor, ChosenInRows, FirstIsLeast, FirstPastIsLeast, RowsLead, RowsRise};
+ghost use Rattle.choice_laws.specs.EditLaws.{MissingRowIsFree, NewRowIsFree, RowsAfterChange, RowsAfterDrop, RowsAfterPush, RowsAfterRemoval, RowsStay, StampsRise, StampsStayBelow};
 ghost use Rattle.choice_laws.specs.Examples.{ExampleAvailable, ExampleChoice, ExampleRows};
+ghost use Rattle.choice_laws.specs.GoingLaws.{RowsGoOn};
 ghost use Rattle.choice_laws.specs.LookLaws.{BothSearchesAreShort, LooksAreFew, LooksPastAreFew};
 ghost use Rattle.choice_laws.specs.ShownLaws.{MovedShows, OthersAreShownAlike, StatesKeepRecipient};
 
@@ -13,6 +14,11 @@ pub fn available_stand_for()
 /// The rows of a queue and consumer stand in their order, no two alike.
 pub fn rows_rise()
     ensures { RowsRise }
+{}
+
+/// Each row leads to a message that stands in the queue and has a ready slot for the consumer.
+pub fn rows_lead()
+    ensures { RowsLead }
 {}
 
 /// The first row that passes a test leads to the least of the messages that pass.
@@ -30,6 +36,11 @@ pub fn chosen_in_rows()
     ensures { ChosenInRows }
 {}
 
+/// Rows can be gone over one by one, each found behind the one before it.
+pub fn rows_go_on()
+    ensures { RowsGoOn }
+{}
+
 /// What an entry at the end makes of the rows.
 pub fn rows_after_push()
     ensures { RowsAfterPush }
@@ -43,6 +54,11 @@ pub fn rows_after_removal()
 /// What a change of a message that keeps its place makes of the rows.
 pub fn rows_after_change()
     ensures { RowsAfterChange }
+{}
+
+/// Rows stay where a changed message stands there now as before.
+pub fn rows_stay()
+    ensures { RowsStay }
 {}
 
 /// What it makes of the rows when all messages of a queue go.
