@@ -46,3 +46,7 @@ none_kept {T} k p same (x ∷ xs) =
 pub find_none : {T : Type 0} (p : T → Bool) (xs : List T) → NonePass p xs → find p xs ≡ None
 find_none p [] none = refl
 find_none p (x ∷ xs) none = ap (λ b. cond b (Some x) (find p xs)) none.0 ∙ find_none p xs none.1
+
+pub find_alike : {T : Type 0} (p r : T → Bool) → ((y : T) → p y ≡ r y) → (xs : List T) → find p xs ≡ find r xs
+find_alike p r same [] = refl
+find_alike p r same (x ∷ xs) = ap (λ b. cond b (Some x) (find p xs)) (same x) ∙ ap (λ found. cond (r x) (Some x) found) (find_alike p r same xs)

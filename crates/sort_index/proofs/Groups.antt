@@ -10,11 +10,11 @@ use Rattle.std.proofs.lemmas.List.Elements.{All-cons}
 use Rattle.std.proofs.lemmas.Bool.Decides.{nat_tests}
 use Rattle.row_tree.specs.Order.{put_in_order}
 use Rattle.sort_index.specs.Fitting.{AllFit}
-use Rattle.sort_index.specs.Ready.{group_cmp, key, is_of, is_past, rows_of, with_rows}
+use Rattle.sort_index.specs.Ready.{EditsRows, group_cmp, key, is_of, is_past, is_past_row, rows_of, with_rows}
 use Rattle.sort_index.specs.ReadyLaws.{group_cmp_total}
 use Rattle.sort_index.specs.declared.group.Group.{Group}
 use Rattle.sort_index.specs.declared.group.Ready.{Ready}
-use Rattle.sort_index.proofs.Finding.{find_put_other, find_put_here, find_filter_other, none_kept, find_none}
+use Rattle.sort_index.proofs.Finding.{find_put_other, find_put_here, find_filter_other, none_kept, find_none, find_alike}
 
 is_Equal : (o : Ordering) → is_eq o ≡ true → o ≡ Equal
 is_Equal Less e = cc e
@@ -126,6 +126,32 @@ fit_back n g gs few fit =
 pub first_any : (rows : List Ready) → slice_get rows 0 ≡ find (is_past None) rows
 first_any [] = refl
 first_any (x ∷ xs) = refl
+
+pub first_row_any : (rows : List Ready) → slice_get rows 0 ≡ find (is_past_row None) rows
+first_row_any [] = refl
+first_row_any (x ∷ xs) = refl
+
+pub slots_alike : {S : Type 0} (taken : Option (Ready × S)) (found : Option Ready) → option_map (λ t. t.0) taken ≡ found
+    → option_map (λ t. t.0.slot) taken ≡ option_map (λ row. row.slot) found
+slots_alike None found same = ap (λ o. option_map (λ (row : Ready). row.slot) o) same
+slots_alike (Some t) found same = ap (λ o. option_map (λ (row : Ready). row.slot) o) same
+
+-- an edit that makes the same of the rows
+pub edits_alike : (queue : List ℕ) (consumer : Option (List ℕ)) (edit other : List Ready → List Ready) (before after : List Group)
+    → edit (rows_of queue consumer before) ≡ other (rows_of queue consumer before) → EditsRows queue consumer edit before after → EditsRows queue consumer other before after
+edits_alike queue consumer edit other before after same edits = λ q c.
+    edits q c ∙ ap (λ rows. cond (is_of q c (key queue consumer)) rows (rows_of q c before)) same
+
+-- an edit that leaves the rows as they are
+pub edits_none : (queue : List ℕ) (consumer : Option (List ℕ)) (edit : List Ready → List Ready) (gs : List Group)
+    → edit (rows_of queue consumer gs) ≡ rows_of queue consumer gs → EditsRows queue consumer edit gs gs
+edits_none queue consumer edit gs same = λ q c.
+    let R : Option Group → List Ready = λ found. option_map_or (λ group. group.rows) found [] in
+    let P : Bool → Type 0 = λ b. is_of q c (key queue consumer) ≡ b → rows_of q c gs ≡ cond b (edit (rows_of queue consumer gs)) (rows_of q c gs) in
+    elim (is_of q c (key queue consumer)) as P [
+      | true ↦ λ e. ap R (find_alike (is_of q c) (is_of queue consumer) (same_names queue consumer q c e) gs) ∙ sym same
+      | false ↦ λ e. refl
+    ] refl
 
 found_passes : (p : Group → Bool) (xs : List Group) (x : Group) → find p xs ≡ Some x → p x ≡ true
 found_passes p [] x found = cc found

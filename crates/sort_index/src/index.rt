@@ -2,23 +2,24 @@
 ghost use Rattle.std.specs.Prelude.{◌≡◌, ◌≢◌, ◌+◌, ◌<◌, ◌≤◌, ℕ, [], filter, length, OnOk, IfSome, IfNone, option_copied};
 ghost use Rattle.std.specs.List.{All, find};
 ghost use Rattle.std.specs.Option.{option_map, option_to_list};
+ghost use Rattle.row_tree.specs.Found.{kept_by};
 ghost use Rattle.std.specs.declared.cmp.Ordering.TheVariants.{Equal};
 ghost use Rattle.sort_index.specs.Fitting.{AllFit};
 ghost use Rattle.sort_index.specs.Ready.{AreRising, EditsRows, HasNames, IsFree};
-ghost use Rattle.sort_index.specs.Ready.{first_slot, first_slot_past, group_cmp, is_past, rows_of, slot_of};
-ghost use Rattle.sort_index.specs.Ready.{with_row, with_rows, without_group, without_place};
+ghost use Rattle.sort_index.specs.Ready.{first_slot, first_slot_past, group_cmp, is_at, is_past, is_past_row, is_row};
+ghost use Rattle.sort_index.specs.Ready.{rows_of, slot_of, with_row, with_rows, without_first_at, without_group, without_row};
 
-use crate::bounds::{AtGroup, AtPlace, PastPlace};
+use crate::bounds::{AtGroup, AtRow, PastPlace, PastRow};
 use crate::{Group, Ready, Steps};
 use payload_records::Name;
-use place_keys::Place;
+use place_keys::{Place, compare};
 use row_tree::{Ordered, Spare, Stock};
 use std::alloc::{AllocError, Global};
 use std::marker::Model;
 use std::sync::ledger::Ledger;
 
-/// The slots that are ready. Contracts see the rows of each queue and consumer, in the order of their places, and for how many
-/// more there is memory.
+/// The slots that are ready. Contracts see the rows of each queue and consumer, in the order of their places and at one place in
+/// the order of their ids, and for how many more there is memory.
 #[derive(Drop)]
 pub struct ReadyIndex {
     groups: Ordered<Group>,
@@ -67,10 +68,10 @@ impl ReadyIndex {
         self.stock.reserve(rows as usize)
     }
 
-    /// Puts a slot in at a place where the queue and consumer have none. It takes no memory.
+    /// Puts a slot in at a place, where the queue and consumer have none with this id. It takes no memory.
     pub fn put(&mut self, queue: Name, consumer: Option<Name>, place: Place, id: u64, slot: u32)
         requires room { 0 < self.old.spare }
-        requires free { IsFree place (rows_of queue consumer self.old.groups) }
+        requires free { IsFree place id (rows_of queue consumer self.old.groups) }
         ensures rows { EditsRows queue consumer (with_row place id slot) self.old.groups self.new.groups }
         ensures room { self.old.spare ≡ self.new.spare + 1 }
     {
@@ -85,13 +86,34 @@ impl ReadyIndex {
         self.puts += 1;
     }
 
-    /// Takes the slot at a place out, where the queue and consumer have one there. It takes no memory.
-    pub fn take_out(&mut self, queue: &Name, consumer: Option<&Name>, place: &Place)
-        ensures rows { EditsRows queue.now (option_copied consumer.entry) (without_place place.now)
+    /// Takes the slot with an id at a place out, and tells which it was, or None where the queue and consumer have none there. It
+    /// takes no memory.
+    pub fn take(
+        &mut self,
+        queue: &Name,
+        consumer: Option<&Name>,
+        place: &Place,
+        id: u64,
+    ) -> Option<u32>
+        ensures slot { result ≡ option_map (λ row. row.slot) (find (is_row place.now id)
+            (rows_of queue.now (option_copied consumer.entry) self.old.groups)) }
+        ensures rows { EditsRows queue.now (option_copied consumer.entry) (without_row place.now id)
             self.old.groups self.new.groups }
         ensures room { self.new.spare ≡ self.old.spare }
     {
-        take_row(&mut self.groups, queue, consumer, place);
+        take_row(&mut self.groups, queue, consumer, place, id)
+    }
+
+    /// Takes the first slot at a place out, where the queue and consumer have one there. It takes no memory.
+    pub fn take_out(&mut self, queue: &Name, consumer: Option<&Name>, place: &Place)
+        ensures rows { EditsRows queue.now (option_copied consumer.entry) (without_first_at place.now)
+            self.old.groups self.new.groups }
+        ensures room { self.new.spare ≡ self.old.spare }
+    {
+        let Some(id) = first_id(&self.groups, queue, consumer, place) else {
+            return;
+        };
+        let _slot = take_row(&mut self.groups, queue, consumer, place, id);
     }
 
     /// The slot at the least place of the queue and consumer, or None where they have none. It takes no memory.
@@ -104,7 +126,7 @@ impl ReadyIndex {
         slot_of(group.rows.get(0))
     }
 
-    /// The slot at the least place past a place, where one is given, or None where there is none. It takes no memory.
+    /// The first slot past all at a place, where one is given, or None where there is none. It takes no memory.
     pub fn next<L: Ledger>(
         &self,
         queue: &Name,
@@ -117,14 +139,50 @@ impl ReadyIndex {
         ensures rising { AreRising (rows_of queue.now (option_copied consumer.entry) self.now.groups) }
         ensures steps { steps.new ≡ steps.old + length (option_to_list result) }
     {
+        slot_of(self.first_row_past(queue, consumer, after, steps))
+    }
+
+    /// The first row past all at a place, where one is given, or None where there is none. It takes no memory.
+    pub fn first_row_past<L: Ledger>(
+        &self,
+        queue: &Name,
+        consumer: Option<&Name>,
+        after: Option<&Place>,
+        steps: &mut Steps<L>,
+    ) -> Option<&Ready>
+        ensures first { option_copied result ≡ find (is_past (option_copied after.entry))
+            (rows_of queue.now (option_copied consumer.entry) self.now.groups) }
+        ensures rising { AreRising (rows_of queue.now (option_copied consumer.entry) self.now.groups) }
+        ensures steps { steps.new ≡ steps.old + length (option_to_list result) }
+    {
         let group = self.groups.find_at(&AtGroup { queue, consumer })?;
-        let found = slot_of(first_past(&group.rows, after))?;
+        let row = first_past(&group.rows, after)?;
         steps.tick();
-        Some(found)
+        Some(row)
+    }
+
+    /// The first row past the one with an id at a place, where they are given, or None where there is none. It takes no memory.
+    pub fn next_row<L: Ledger>(
+        &self,
+        queue: &Name,
+        consumer: Option<&Name>,
+        after: Option<(&Place, u64)>,
+        steps: &mut Steps<L>,
+    ) -> Option<&Ready>
+        ensures first { option_copied result ≡ find
+            (is_past_row (option_map (λ at. (at.0.now, at.1)) after.entry))
+            (rows_of queue.now (option_copied consumer.entry) self.now.groups) }
+        ensures rising { AreRising (rows_of queue.now (option_copied consumer.entry) self.now.groups) }
+        ensures steps { steps.new ≡ steps.old + length (option_to_list result) }
+    {
+        let group = self.groups.find_at(&AtGroup { queue, consumer })?;
+        let row = first_past_row(&group.rows, after)?;
+        steps.tick();
+        Some(row)
     }
 }
 
-// The row at the least place past a place, where one is given.
+// The first row past all at a place, where one is given.
 fn first_past<'a>(rows: &'a Ordered<Ready>, after: Option<&Place>) -> Option<&'a Ready>
     ensures first { option_copied result ≡ find (is_past (option_copied after.entry)) rows.now }
     ensures rising { AreRising rows.now }
@@ -135,11 +193,57 @@ fn first_past<'a>(rows: &'a Ordered<Ready>, after: Option<&Place>) -> Option<&'a
     }
 }
 
+// The first row past a place and an id, where they are given.
+fn first_past_row<'a>(rows: &'a Ordered<Ready>, after: Option<(&Place, u64)>) -> Option<&'a Ready>
+    ensures first { option_copied result ≡ find
+        (is_past_row (option_map (λ at. (at.0.now, at.1)) after.entry)) rows.now }
+    ensures rising { AreRising rows.now }
+{
+    match after {
+        None => rows.get(0),
+        Some((place, id)) => rows.first_from(&PastRow { place, id }),
+    }
+}
+
+// The id of the first row of a queue and a consumer at a place.
+fn first_id(
+    groups: &Ordered<Group>,
+    queue: &Name,
+    consumer: Option<&Name>,
+    place: &Place,
+) -> Option<u64>
+    ensures id { result ≡ option_map (λ row. row.id) (find (is_at place.now)
+        (rows_of queue.now (option_copied consumer.entry) groups.now)) }
+    ensures rising { AreRising (rows_of queue.now (option_copied consumer.entry) groups.now) }
+{
+    let group = groups.find_at(&AtGroup { queue, consumer })?;
+    id_at(group.rows.first_from(&AtRow { place, id: 0 }), place)
+}
+
+// The id of the row, where it stands at the place.
+fn id_at(row: Option<&Ready>, place: &Place) -> Option<u64>
+    ensures { result ≡ option_map (λ row. row.id) (kept_by (is_at place.now) (option_copied row.entry)) }
+{
+    let row = row?;
+    if compare(&row.place, place).is_eq() {
+        Some(row.id)
+    } else {
+        None
+    }
+}
+
 fn slot_of(row: Option<&Ready>) -> Option<(u64, u32)>
     ensures { result ≡ option_map slot_of (option_copied row.entry) }
 {
     let row = row?;
     Some((row.id, row.slot))
+}
+
+fn taken_slot(taken: Option<(Ready, Spare<Ready>)>) -> Option<u32>
+    ensures { result ≡ option_map (λ taken. taken.0.slot) taken }
+{
+    let (row, _spare) = taken?;
+    Some(row.slot)
 }
 
 // Takes the group of a queue and a consumer out, or makes one with no rows.
@@ -186,19 +290,28 @@ fn take_named(
     groups.take_at(&AtGroup { queue, consumer })
 }
 
-// Takes the row at a place out of the group of a queue and a consumer.
-fn take_row(groups: &mut Ordered<Group>, queue: &Name, consumer: Option<&Name>, place: &Place)
+// Takes the row with an id at a place out of the group of a queue and a consumer.
+fn take_row(
+    groups: &mut Ordered<Group>,
+    queue: &Name,
+    consumer: Option<&Name>,
+    place: &Place,
+    id: u64,
+) -> Option<u32>
     requires { length groups.old ≤ usize.MAX }
-    ensures rows { EditsRows queue.now (option_copied consumer.entry) (without_place place.now)
+    ensures slot { result ≡ option_map (λ row. row.slot) (find (is_row place.now id)
+        (rows_of queue.now (option_copied consumer.entry) groups.old)) }
+    ensures rows { EditsRows queue.now (option_copied consumer.entry) (without_row place.now id)
         groups.old groups.new }
     ensures fit { (n : ℕ) → AllFit n groups.old → AllFit n groups.new }
     ensures len { length groups.new ≤ length groups.old }
 {
     let Some((mut group, spare)) = take_named(groups, queue, consumer) else {
-        return;
+        return None;
     };
-    let _taken = group.rows.take_at(&AtPlace { place });
+    let taken = group.rows.take_at(&AtRow { place, id });
     put_back(groups, group, spare);
+    taken_slot(taken)
 }
 
 // Puts a group back where it has rows.

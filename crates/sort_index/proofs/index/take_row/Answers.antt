@@ -1,11 +1,11 @@
-use Rattle.std.proofs.Common.{◌≤◌, List, Bool, cond, not, filter, length, option_copied, ap, sym, ◌∙◌, arith, subst}
-use Rattle.std.specs.Ordering.{is_eq}
-use Rattle.place_keys.specs.Place.{place_cmp}
+use Rattle.std.proofs.Common.{◌≤◌, List, cond, not, length, option_copied, ap, sym, ◌∙◌, arith, subst}
+use Rattle.std.specs.List.{find}
+use Rattle.std.specs.Option.{option_map}
 use Rattle.sort_index.specs.Fitting.{AllFit}
-use Rattle.sort_index.specs.Ready.{key, is_of, rows_of, with_rows}
+use Rattle.sort_index.specs.Ready.{key, is_of, is_row, rows_of, with_rows, without_row}
 use Rattle.sort_index.specs.declared.group.Group.{Group}
 use Rattle.sort_index.specs.declared.group.Ready.{Ready}
-use Rattle.sort_index.proofs.Groups.{rows_back, rows_gone, free_group, fit_back, fit_kept, fit_rows}
+use Rattle.sort_index.proofs.Groups.{rows_back, rows_gone, free_group, fit_back, fit_kept, fit_rows, slots_alike}
 use Rattle.sort_index.proofs.index.take_row.Goals as goal
 
 pub returns-in_default-clause-rows : goal.returns-in_default-clause-rows
@@ -13,8 +13,10 @@ returns-in_default-clause-rows c = λ q d.
     let queue = c.args.queue.now in
     let consumer = option_copied c.args.consumer in
     let gs = c.args.groups.now in
-    let k : Ready → Bool = λ row. not (is_eq (place_cmp row.place c.args.place.now)) in
-    ap (rows_of q d) c.take_named.ensures.rest ∙ rows_gone queue consumer gs q d ∙ ap (λ rs. cond (is_of q d (key queue consumer)) rs (rows_of q d gs)) (sym (ap (filter k) c.in_default.ensures.none))
+    ap (rows_of q d) c.take_named.ensures.rest ∙ rows_gone queue consumer gs q d ∙ ap (λ rs. cond (is_of q d (key queue consumer)) rs (rows_of q d gs)) (sym (ap (without_row c.args.place.now c.args.id) c.in_default.ensures.none))
+
+pub returns-in_default-clause-slot : goal.returns-in_default-clause-slot
+returns-in_default-clause-slot c = sym (ap (λ rs. option_map (λ (row : Ready). row.slot) (find (is_row c.args.place.now c.args.id) rs)) c.in_default.ensures.none)
 
 pub returns-in_default-clause-fit : goal.returns-in_default-clause-fit
 returns-in_default-clause-fit c = λ n fit.
@@ -30,6 +32,11 @@ put_back-requires-clause-free c =
 pub put_back-requires-clause-fits : goal.put_back-requires-clause-fits
 put_back-requires-clause-fits c = omega (arith, c.in-Some.ensures.less, c.requires)
 
+pub returns-clause-slot : goal.returns-clause-slot
+returns-clause-slot c =
+    let found = c.take_at-taken.ensures.row ∙ ap (find (is_row c.args.place.now c.args.id)) c.in-Some.ensures.rows in
+    c.taken_slot.ensures ∙ slots_alike c.take_at-taken.result (find (is_row c.args.place.now c.args.id) (rows_of c.args.queue.now (option_copied c.args.consumer) c.args.groups.now)) found
+
 pub returns-clause-rows : goal.returns-clause-rows
 returns-clause-rows c = λ q d.
     let queue = c.args.queue.now in
@@ -37,8 +44,7 @@ returns-clause-rows c = λ q d.
     let t = c.in-Some.group in
     let g : Group = record { queue = t.queue; consumer = t.consumer; rows = c.take_at-taken.new.self } in
     let gs = c.args.groups.now in
-    let k : Ready → Bool = λ row. not (is_eq (place_cmp row.place c.args.place.now)) in
-    let rows = c.take_at-taken.ensures.rest ∙ ap (filter k) c.in-Some.ensures.rows in
+    let rows = c.take_at-taken.ensures.rest ∙ ap (without_row c.args.place.now c.args.id) c.in-Some.ensures.rows in
     ap (rows_of q d) (c.put_back.ensures.groups ∙ ap (with_rows g) c.take_named.ensures.rest)
     ∙ rows_back queue consumer g gs c.in-Some.ensures.names q d
     ∙ ap (λ rs. cond (is_of q d (key queue consumer)) rs (rows_of q d gs)) rows
