@@ -1,8 +1,9 @@
 // A tree of rows, which contracts see as the list of its rows.
 ghost use Rattle.std.specs.Prelude.{◌≡◌, ◌↔◌, IsTrue, ◌+◌, ◌-◌, ◌<◌, ◌≤◌, [], ◌∷◌, ◌++◌, length, insert, remove, slice_get, option_copied, Some, IsSome, IfSome, IfNone};
+ghost use Rattle.std.specs.Fn.{CalledAt};
 ghost use Rattle.std.specs.List.{prefix_len};
+ghost use Rattle.std.specs.List.Retain.{IsFiltered};
 ghost use Rattle.std.specs.Option.{option_to_list};
-ghost use Rattle.std.specs.Iterator.{YieldsFirstRef, item_count};
 ghost use Rattle.row_tree.specs.Bounds.{is_before};
 ghost use Rattle.row_tree.specs.Edits.{edit_at};
 ghost use Rattle.row_tree.specs.Split.{IsSplit};
@@ -17,16 +18,16 @@ use std::mem;
 #[cycle(tree)]
 #[derive(Drop)]
 pub struct Tree<T> {
-    root: Option<Box<Fork<T>>>,
+    pub(crate) root: Option<Box<Fork<T>>>,
 }
 
 #[cycle(tree)]
 #[derive(Drop)]
-struct Fork<T> {
-    left: Tree<T>,
-    right: Tree<T>,
+pub(crate) struct Fork<T> {
+    pub(crate) left: Tree<T>,
+    pub(crate) right: Tree<T>,
     count: usize,
-    row: Option<T>,
+    pub(crate) row: Option<T>,
 }
 
 impl<T> Model for Tree<T> {
@@ -54,23 +55,6 @@ impl<T> Model for Tree<T> {
 #[derive(Drop)]
 pub struct Spare<T> {
     fork: Box<Fork<T>>,
-}
-
-/// The rows of a tree from the first to the last, each lent.
-#[derive(Drop)]
-pub struct Iter<'a, T> {
-    tree: &'a Tree<T>,
-    at: usize,
-}
-
-impl<'a, T> Model for Iter<'a, T> {
-    ghost use Rattle.std.specs.Prelude.{List as Sequence, ◌≤◌, drop, length};
-
-    ghost Value = { Sequence T };
-
-    ghost view = { λ i. drop i.at i.tree.now };
-
-    ghost invariant = { λ i. i.at ≤ length i.tree.now };
 }
 
 #[derive(Drop)]
@@ -113,13 +97,6 @@ struct First<T> {
 }
 
 impl<T> Tree<T> {
-    /// The rows from the first to the last. Each is found by its index, in about as many steps as their number has digits.
-    pub fn iter(&self) -> Iter<'_, T>
-        ensures { result ≡ self.now }
-    {
-        Iter { tree: self, at: 0 }
-    }
-
     /// The row at an index that counts from 0, or None past the end. It takes no memory.
     pub fn get(&self, at: usize) -> Option<&T>
         ensures { option_copied result ≡ slice_get self.now at }
@@ -145,37 +122,6 @@ impl<T> Tree<T> {
         ensures { IsTrue result ↔ (self.now ≡ []) }
     {
         self.len() == 0
-    }
-}
-
-impl<'a, T> IntoIterator for &'a Tree<T> {
-    type Item = &'a T;
-
-    type IntoIter = Iter<'a, T>;
-
-    ghost into_iter_gives = { λ t i. i ≡ t.now };
-
-    fn into_iter(self) -> Iter<'a, T> {
-        self.iter()
-    }
-}
-
-impl<'a, T> Iterator for Iter<'a, T> {
-    type Item = &'a T;
-
-    ghost next_gives = { YieldsFirstRef (λ i. i) };
-
-    ghost remaining = { item_count (λ i. i) };
-
-    fn next(&mut self) -> Option<&'a T> {
-        let _most = self.tree.len();
-        match self.tree.get(self.at) {
-            None => None,
-            Some(row) => {
-                self.at += 1;
-                Some(row)
-            }
-        }
     }
 }
 
@@ -255,6 +201,25 @@ impl<T: Drop> Tree<T> {
     {
         let tree = mem::replace(self, Tree::new());
         *self = tree.edited(at, edit);
+    }
+
+    /// Keeps the rows that pass a test, in their order, and takes out the others one by one. It takes no memory.
+    pub fn retain<F: FnMut(&T) -> bool>(&mut self, mut passes: F)
+        requires { F.IsAlwaysCallable passes }
+        ensures filtered { IsFiltered (CalledAt F.FnMut) passes self.old self.new }
+        ensures bound { length self.new ≤ length self.old }
+    {
+        let mut at = 0;
+        while at < self.len() {
+            let Some(row) = self.get(at) else {
+                unreachable!()
+            };
+            if passes(row) {
+                at += 1;
+            } else {
+                let _removed = self.remove(at);
+            }
+        }
     }
 
     fn inserted(self, at: usize, row: T, spare: Spare<T>) -> Tree<T>
@@ -402,7 +367,8 @@ fn hang<T: Drop>(mut fork: Box<Fork<T>>, left: Tree<T>, right: Tree<T>) -> Tree<
     Tree { root: Some(fork) }
 }
 
-// A root over both sides, turned where one of them has more than three times the rows of the other.
+// A root over both sides, turned where one of them weighs more than three times the other, its weight being the number of its rows and one:
+// once, where its inner part weighs less than twice the outer one, and else twice.
 fn join<T: Drop>(fork: Box<Fork<T>>, left: Tree<T>, right: Tree<T>) -> Tree<T>
     requires row { IsSome fork.value.row }
     requires fits { length left + length right < usize.MAX }
@@ -432,7 +398,7 @@ fn lean_left<T: Drop>(fork: Box<Fork<T>>, left: Tree<T>, right: Tree<T>) -> Tree
     else {
         return hang(fork, Tree::new(), right);
     };
-    if inner.len() / 2 <= left.len() {
+    if inner.len().div_ceil(2) <= left.len() {
         return hang(top, left, hang(fork, inner, right));
     }
     let Some(
@@ -463,7 +429,7 @@ fn lean_right<T: Drop>(fork: Box<Fork<T>>, left: Tree<T>, right: Tree<T>) -> Tre
     else {
         return hang(fork, left, Tree::new());
     };
-    if inner.len() / 2 <= right.len() {
+    if inner.len().div_ceil(2) <= right.len() {
         return hang(top, hang(fork, left, inner), right);
     }
     let Some(
