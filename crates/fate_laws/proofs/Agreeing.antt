@@ -10,7 +10,7 @@ use Rattle.queue_rows.specs.Tables.{after_change, in_state, retried, moved_to}
 use Rattle.queue_rows.specs.Settling.{if_it, left_by}
 use Rattle.fate_laws.specs.Fates.{Fate, ready, processed, expired, dropped, fate_in, is_final, Course, course_of, with_fate, in_queue, said, retried_fate, moved_course, without_queue, course_after}
 use Rattle.valid_laws.specs.Openness.{is_open_at, is_finished, is_finished_at, may_move}
-use Rattle.fate_laws.specs.Proper.{is_proper}
+use Rattle.valid_laws.specs.Touching.{is_proper}
 use Rattle.queue_rows.specs.declared.tables.Tables.{Tables}
 use Rattle.queue_rows.specs.declared.rows.MsgRow.{MsgRow}
 use Rattle.queue_rows.specs.declared.rows.SlotRow.{SlotRow}

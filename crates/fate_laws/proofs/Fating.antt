@@ -7,7 +7,8 @@ use Rattle.queue_rows.specs.Tables.{after_all}
 use Rattle.queue_rows.specs.Valid.{is_valid}
 use Rattle.fate_laws.specs.Made.{changes_of, commits_of, after_commits, opening_of}
 use Rattle.fate_laws.specs.Fates.{fate_in, Course, course_of, course_in, course_by, fate_by, fate, names, is_done}
-use Rattle.fate_laws.specs.Proper.{AreProper, are_proper}
+use Rattle.fate_laws.specs.Proper.{AreProper}
+use Rattle.valid_laws.specs.Touching.{are_proper}
 use Rattle.fate_laws.specs.Lasting.{has_final, Agrees, HasFates}
 use Rattle.queue_rows.specs.declared.tables.Tables.{Tables}
 use Rattle.queue_rows.specs.declared.rows.MsgRow.{MsgRow}

@@ -9,7 +9,8 @@ use Rattle.queue_rows.specs.Tables.{after_change, after_all}
 use Rattle.queue_rows.specs.Settling.{left_by}
 use Rattle.fate_laws.specs.Fates.{Fate, ready, processed, fate_in, is_final, Course, course_of, with_fate, in_queue, said, retried_fate, moved_course, without_queue, course_after, is_made_of, names, is_done}
 use Rattle.valid_laws.specs.Openness.{may_move}
-use Rattle.fate_laws.specs.Proper.{is_proper, are_proper, ids_put_in}
+use Rattle.fate_laws.specs.Proper.{ids_put_in}
+use Rattle.valid_laws.specs.Touching.{is_proper, are_proper}
 use Rattle.queue_rows.specs.declared.tables.Tables.{Tables}
 use Rattle.queue_rows.specs.declared.rows.MsgRow.{MsgRow}
 use Rattle.queue_rows.specs.declared.change.Change.{Change}

@@ -26,7 +26,7 @@ use Rattle.valid_laws.proofs.Keeping.{later_is_valid}
 use Rattle.valid_laws.proofs.Lowering.{numbers_of}
 use Rattle.valid_laws.proofs.Completing.{depth_within, placed_right}
 use Rattle.valid_laws.proofs.Pending.{first_group}
-use Rattle.valid_laws.proofs.Going.{GoesWell, nothing_goes, goes_on, goes_one, fits_if_goes, settled_fits}
+use Rattle.valid_laws.proofs.Going.{GoesWell, nothing_goes, goes_on, goes_one, goes_settled, fits_if_goes}
 
 -- ---- a copy
 
@@ -34,7 +34,7 @@ not_there : (t : Tables) (id : ℕ) (o : Option MsgRow) → find_message t id �
 not_there t id None e v le = refl
 not_there t id (Some m) e v le = absurd (let lt : id < t.next = valid_id t id m v e in omega (arith, lt, le))
 
-copy_lane_by : (group : ℕ) (b : Bool) → depth_of (if b then pos group else pos 0) ≤ 0
+pub copy_lane_by : (group : ℕ) (b : Bool) → depth_of (if b then pos group else pos 0) ≤ 0
 copy_lane_by group true = omega arith
 copy_lane_by group false = omega arith
 
@@ -90,8 +90,8 @@ module _ (t : Tables) (at : SlotRef) (p : Parcel) (next moment : ℕ) (v : is_va
     groups = let b = (numbers_of t v).below in let c = k.next_up in omega (arith, b, c);
   }
 
-  copy_goes : GoesWell t (changes.Enqueued copy ∷ [])
-  copy_goes = goes_one t (changes.Enqueued copy) v copy_puts refl
+  copy_goes : GoesWell true t (changes.Enqueued copy ∷ [])
+  copy_goes = goes_one true t (changes.Enqueued copy) v copy_puts refl (λ _. refl)
 
   abbrev seen_row : SeenRow
   seen_row = record { id = at.id; slot = at.slot; copy = next }
@@ -106,8 +106,8 @@ module _ (t : Tables) (at : SlotRef) (p : Parcel) (next moment : ℕ) (v : is_va
     copy = omega arith;
   }
 
-  pub arrival_goes : GoesWell t (changes.Enqueued copy ∷ changes.Seen seen_row ∷ [])
-  arrival_goes = goes_on t (changes.Enqueued copy ∷ []) (changes.Seen seen_row ∷ []) copy_goes (goes_one then_tables (changes.Seen seen_row) copy_goes.valid seen_keeps refl)
+  pub arrival_goes : GoesWell true t (changes.Enqueued copy ∷ changes.Seen seen_row ∷ [])
+  arrival_goes = goes_on true t (changes.Enqueued copy ∷ []) (changes.Seen seen_row ∷ []) copy_goes (goes_one true then_tables (changes.Seen seen_row) copy_goes.valid seen_keeps refl (λ _. refl))
 
 may_later : (t : Tables) (at : SlotRef) (p : Parcel) (next moment : ℕ) → MayTakeIn t at p next moment → MayTakeIn (at_latest moment t) at p next moment
 may_later t at p next moment k = record {
@@ -124,15 +124,17 @@ may_later t at p next moment k = record {
   unseen = k.unseen;
 }
 
-pub arrival_fits : (there : Tables) (at : SlotRef) (p : Parcel) (next moment : ℕ) → is_valid there ≡ true → there.latest ≤ moment → moment ≤ MOMENT_LIMIT → MayTakeIn there at p next moment
-    → fits there (record { moment = moment; changes = taken_in there at p next moment }) ≡ true
+pub taken_in_goes : (there : Tables) (at : SlotRef) (p : Parcel) (next moment : ℕ) → is_valid there ≡ true → there.latest ≤ moment → moment ≤ MOMENT_LIMIT → MayTakeIn there at p next moment → GoesWell true (at_latest moment there) (taken_in there at p next moment)
 unfolding taken_in may_later
-arrival_fits there at p next moment v le top k =
+taken_in_goes there at p next moment v le top k =
     let u = at_latest moment there in
     let found : table_of there p.to ≡ Some k.table = ap (option_and_then (λ q. find_table there q.table)) k.queue_is ∙ k.table_is in
-    let g = arrival_goes u at p next moment (later_is_valid there moment le v top) refl (may_later there at p next moment k) in
-    subst (λ o. fits there (record { moment = moment; changes = taken_in_by there at p next moment o }) ≡ true) (sym found)
-    (fits_if_goes there moment (changes.Enqueued (copy_of k.table p next there.transaction moment) ∷ changes.Seen (record { id = at.id; slot = at.slot; copy = next }) ∷ []) le g)
+    subst (λ o. GoesWell true (at_latest moment there) (taken_in_by there at p next moment o)) (sym found)
+    (arrival_goes u at p next moment (later_is_valid there moment le v top) refl (may_later there at p next moment k))
+
+pub arrival_fits : (there : Tables) (at : SlotRef) (p : Parcel) (next moment : ℕ) → is_valid there ≡ true → there.latest ≤ moment → moment ≤ MOMENT_LIMIT → MayTakeIn there at p next moment
+    → fits there (record { moment = moment; changes = taken_in there at p next moment }) ≡ true
+arrival_fits there at p next moment v le top k = fits_if_goes true there moment (taken_in there at p next moment) le (taken_in_goes there at p next moment v le top k)
 
 -- ---- a confirmation
 
@@ -146,18 +148,22 @@ recovered_valid t s h =
     six_from (takes_subscribers t s.queue) (nat_le 0 (if s.enabled then 15 else 16)) (nat_le s.start MOMENT_LIMIT) (if_some is_span s.duration) (if_some is_span s.period) (is_time s.latency)
     p.0 (no_failures s.enabled) p.2 p.3 p.4 p.5
 
-recovering_by : (u : Tables) (s : ScheduleRow) (b : Bool) → is_valid u ≡ true → is_valid_schedule u (record s { failures = 0 }) ≡ true → GoesWell u (if b then [] else changes.PutSchedule (record s { failures = 0 }) ∷ [])
-recovering_by u s true v k = nothing_goes u v
-recovering_by u s false v k = goes_one u (changes.PutSchedule (record s { failures = 0 })) v k refl
+recovering_by : (u : Tables) (s : ScheduleRow) (b : Bool) → is_valid u ≡ true → is_valid_schedule u (record s { failures = 0 }) ≡ true → GoesWell true u (if b then [] else changes.PutSchedule (record s { failures = 0 }) ∷ [])
+recovering_by u s true v k = nothing_goes true u v
+recovering_by u s false v k = goes_one true u (changes.PutSchedule (record s { failures = 0 })) v k refl (λ _. refl)
 
-confirming_goes : (u : Tables) (at : SlotRef) (s : ScheduleRow) (moment : ℕ) → is_valid u ≡ true → u.latest ≡ moment → is_open_at u at.id at.slot ≡ true → is_valid_schedule u s ≡ true → GoesWell u (changes.Done at.id at.slot moment ∷ recovering s)
+confirming_goes : (u : Tables) (at : SlotRef) (s : ScheduleRow) (moment : ℕ) → is_valid u ≡ true → u.latest ≡ moment → is_open_at u at.id at.slot ≡ true → is_valid_schedule u s ≡ true → GoesWell true u (changes.Done at.id at.slot moment ∷ recovering s)
 confirming_goes u at s moment v l o k =
     let c = changes.Done at.id at.slot moment in
-    let g = goes_one u c v (record { is_open_there = o; in_time = omega (arith, l) }) refl in
-    goes_on u (c ∷ []) (recovering s) g (recovering_by (after_change u c) s (s.failures == 0) g.valid (recovered_valid u s k))
+    let g = goes_one true u c v (record { is_open_there = o; in_time = omega (arith, l) }) refl (λ _. refl) in
+    goes_on true u (c ∷ []) (recovering s) g (recovering_by (after_change u c) s (s.failures == 0) g.valid (recovered_valid u s k))
+
+pub confirmation_goes : (t : Tables) (at : SlotRef) (schedule : ScheduleRow) (moment : ℕ) → is_valid t ≡ true → t.latest ≤ moment → moment ≤ MOMENT_LIMIT → is_open_at t at.id at.slot ≡ true → is_valid_schedule t schedule ≡ true
+    → GoesWell true (at_latest moment t) (confirming t at schedule moment)
+unfolding confirming
+confirmation_goes t at schedule moment v le top o k =
+    goes_settled true (at_latest moment t) (changes.Done at.id at.slot moment ∷ recovering schedule) (confirming_goes (at_latest moment t) at schedule moment (later_is_valid t moment le v top) refl o k)
 
 pub confirmation_fits : (t : Tables) (at : SlotRef) (schedule : ScheduleRow) (moment : ℕ) → is_valid t ≡ true → t.latest ≤ moment → moment ≤ MOMENT_LIMIT → is_open_at t at.id at.slot ≡ true → is_valid_schedule t schedule ≡ true
     → fits t (record { moment = moment; changes = confirming t at schedule moment }) ≡ true
-unfolding confirming
-confirmation_fits t at schedule moment v le top o k =
-    settled_fits t moment (changes.Done at.id at.slot moment ∷ recovering schedule) le (confirming_goes (at_latest moment t) at schedule moment (later_is_valid t moment le v top) refl o k)
+confirmation_fits t at schedule moment v le top o k = fits_if_goes true t moment (confirming t at schedule moment) le (confirmation_goes t at schedule moment v le top o k)

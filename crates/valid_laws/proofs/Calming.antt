@@ -156,7 +156,7 @@ fold_unhandled w m (n ∷ ns) r h = fold_unhandled w m ns (slot_done w m r n) (k
 
 -- ---- a message that all have taken has no slot to do
 
-gone_closed : (state : SlotState) → is_gone state ≡ true → is_open state ≡ false
+pub gone_closed : (state : SlotState) → is_gone state ≡ true → is_open state ≡ false
 gone_closed states.Ready e = absurd (false≢true e)
 gone_closed states.Waiting e = absurd (false≢true e)
 gone_closed states.Processed e = refl
@@ -182,7 +182,7 @@ closed_at : (w : Watch) (m : MsgRow) (b : ℕ) (o : Option SlotRow) → ((s : Sl
 closed_at w m b None h = refl
 closed_at w m b (Some s) h = closed_kind w m b s (is_left w m b) (h s refl)
 
-zero_closed : (o : Option SlotRow) (s : SlotRow) → option_map_or (λ x. is_processed x.state) o false ≡ true → o ≡ Some s → is_open s.state ≡ false
+pub zero_closed : (o : Option SlotRow) (s : SlotRow) → option_map_or (λ x. is_processed x.state) o false ≡ true → o ≡ Some s → is_open s.state ≡ false
 zero_closed None s h e = absurd (none-some s e)
 zero_closed (Some x) s h e = let same : x ≡ s = cc in ap (λ y. is_open y.state) (sym same) ∙ processed_closed x.state h
 

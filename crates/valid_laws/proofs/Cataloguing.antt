@@ -37,7 +37,7 @@ turn_by : (a b : List ℕ) (c : Bool) → bytes_eq b a ≡ c → bytes_eq a b �
 turn_by a b true e h = absurd (false≢true (sym h ∙ ap (λ n. bytes_eq n b) (sym (same_name b a e)) ∙ own_name b))
 turn_by a b false e h = e
 
-turned : (a b : List ℕ) → bytes_eq a b ≡ false → bytes_eq b a ≡ false
+pub turned : (a b : List ℕ) → bytes_eq a b ≡ false → bytes_eq b a ≡ false
 turned a b h = turn_by a b (bytes_eq b a) refl h
 
 pub alike_queues : (row x y : QueueRow) → is_same_queue x row ≡ true → is_same_queue row y ≡ is_same_queue x y

@@ -32,7 +32,7 @@ use Rattle.row_laws.proofs.Slots.{slot_of-has, slot_of-hasnt}
 use Rattle.valid_laws.specs.Openness.{is_open_slot}
 use Rattle.valid_laws.proofs.Parts.{parts_of, all_found, valid_distinct}
 use Rattle.valid_laws.proofs.Keeping.{later_is_valid}
-use Rattle.valid_laws.proofs.Going.{GoesWell, goes_on, goes_one, settled_fits}
+use Rattle.valid_laws.proofs.Going.{GoesWell, goes_on, goes_one, goes_settled, fits_if_goes}
 use Rattle.valid_laws.proofs.Retrying.{IsAlike, alike_changed, in_normal_unmoved}
 use Rattle.valid_laws.proofs.Undone.{At, Does, DoesAt, does_nothing, here_open, here_unmoved, in_time, changed_at, others_changed, does_append, are_in, all_do}
 
@@ -96,8 +96,8 @@ from_first m low x xs h = let e : low ≡ low + 0 = omega arith in ap (slot_of m
 module _ (t : Tables) (w : Watch) (x : MsgRow) (unmoved : x.moved ≡ false) (x_is : find_message t x.id ≡ Some x) (sub : SubRow) where
   drop_does : (slot : ℕ) (u : Tables) → At t w x unmoved x_is slot u → is_open_slot slot x ≡ true → DoesAt t w x unmoved x_is (slot + 1) u (changes.Dropped x.id slot w.moment ∷ [])
   drop_does slot u a o =
-      let goes = goes_one u (changes.Dropped x.id slot w.moment) a.valid
-      (record { changes_open = record { is_open_there = here_open t w x unmoved x_is slot u a o; in_time = in_time t w x unmoved x_is slot u a }; unmoved = here_unmoved t w x unmoved x_is u a.alike }) refl in
+      let goes = goes_one true u (changes.Dropped x.id slot w.moment) a.valid
+      (record { changes_open = record { is_open_there = here_open t w x unmoved x_is slot u a o; in_time = in_time t w x unmoved x_is slot u a }; unmoved = here_unmoved t w x unmoved x_is u a.alike }) refl (λ _. refl) in
       record {
         does = record { goes = goes; alike = alike_changed t u x.id slot (in_state states.Dropped w.moment) a.alike; others = others_changed t w x unmoved x_is slot (in_state states.Dropped w.moment) u };
         at = changed_at t w x unmoved x_is slot (in_state states.Dropped w.moment) u a goes.valid;
@@ -145,19 +145,23 @@ alike_without : (t : Tables) (moment : ℕ) (queue name : List ℕ) → IsAlike 
 alike_without t moment queue name = record { queues = λ n. refl; rows = λ id m e. record { row = m; is_row = e; queue = refl; moved = refl } }
 
 removal_goes_well : (t : Tables) (sub : SubRow) (moment : ℕ) → is_valid t ≡ true → t.latest ≤ moment → moment ≤ MOMENT_LIMIT → find_sub t sub.queue sub.name ≡ Some sub
-    → GoesWell (at_latest moment t) (changes.DropSub sub.queue sub.name ∷ dropped_in t sub moment)
+    → GoesWell true (at_latest moment t) (changes.DropSub sub.queue sub.name ∷ dropped_in t sub moment)
 removal_goes_well t sub moment v le top e =
     let u = at_latest moment t in
     let c = changes.DropSub sub.queue sub.name in
-    let g = goes_one u c (later_is_valid t moment le v top) (ap is_some e) refl in
+    let g = goes_one true u c (later_is_valid t moment le v top) (ap is_some e) refl (λ _. refl) in
     let d = valid_distinct t v in
     let here = are_in t.messages d in
     let all = all_do t moment (λ m. if bytes_eq m.queue sub.queue then dropped_of sub moment m else [])
     (λ x f y yv l k h. drop_if t sub moment v (normal_of t sub v e) x (bytes_eq x.queue sub.queue) refl f y yv l k h)
     t.messages (after_change u c) g.valid refl (alike_without t moment sub.queue sub.name) here here d in
-    goes_on u (c ∷ []) (dropped_in t sub moment) g
-    (subst (GoesWell (after_change u c)) (sym (if_filter (λ m. bytes_eq m.queue sub.queue) (dropped_of sub moment) t.messages)) all.goes)
+    goes_on true u (c ∷ []) (dropped_in t sub moment) g
+    (subst (GoesWell true (after_change u c)) (sym (if_filter (λ m. bytes_eq m.queue sub.queue) (dropped_of sub moment) t.messages)) all.goes)
+
+pub subscriber_goes : (t : Tables) (sub : SubRow) (moment : ℕ) → is_valid t ≡ true → t.latest ≤ moment → moment ≤ MOMENT_LIMIT → find_sub t sub.queue sub.name ≡ Some sub
+    → GoesWell true (at_latest moment t) (settled t (changes.DropSub sub.queue sub.name ∷ dropped_in t sub moment))
+subscriber_goes t sub moment v le top e = goes_settled true (at_latest moment t) (changes.DropSub sub.queue sub.name ∷ dropped_in t sub moment) (removal_goes_well t sub moment v le top e)
 
 pub subscriber_removal_fits : (t : Tables) (sub : SubRow) (moment : ℕ) → is_valid t ≡ true → t.latest ≤ moment → moment ≤ MOMENT_LIMIT → find_sub t sub.queue sub.name ≡ Some sub
     → fits t (record { moment = moment; changes = settled t (changes.DropSub sub.queue sub.name ∷ dropped_in t sub moment) }) ≡ true
-subscriber_removal_fits t sub moment v le top e = settled_fits t moment (changes.DropSub sub.queue sub.name ∷ dropped_in t sub moment) le (removal_goes_well t sub moment v le top e)
+subscriber_removal_fits t sub moment v le top e = fits_if_goes true t moment (settled t (changes.DropSub sub.queue sub.name ∷ dropped_in t sub moment)) le (subscriber_goes t sub moment v le top e)

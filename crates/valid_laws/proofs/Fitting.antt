@@ -34,6 +34,7 @@ use Rattle.valid_laws.proofs.Parts.{and_l, and_r, valid_messages, all_found, par
 use Rattle.valid_laws.proofs.Slotted.{slot_keeps_valid}
 use Rattle.valid_laws.proofs.Cataloguing.{queue_put, queue_dropped}
 use Rattle.valid_laws.proofs.Putting.{put_is_valid}
+use Rattle.valid_laws.proofs.Tabling.{table_dropped}
 use Rattle.valid_laws.proofs.Subscribing.{sub_put, sub_dropped, schedule_put, schedule_dropped}
 use Rattle.valid_laws.proofs.Moving.{moved_keeps_valid}
 use Rattle.valid_laws.proofs.Keeping.{purged_keeps_valid}
@@ -260,6 +261,7 @@ change_keeps_valid t (changes.Moved id queue at) v k = (
   moved_keeps_valid t id queue at v k,
   and_from (is_unmoved_at t id) (is_some (find_queue t queue)) (ap (λ o. option_map_or (λ m. not m.moved) o false) k.found ∙ (and_parts (not k.message.moved) (is_finished k.message) k.may).0) (ap is_some k.to_is),
 )
+change_keeps_valid t (changes.DropTable name) v k = (table_dropped t name v k, ap is_some k.found)
 change_keeps_valid t (changes.PutQueue row) v k = (queue_put t row k v, refl)
 change_keeps_valid t (changes.DropQueue name) v k = (queue_dropped t name v k, ap is_some k.found)
 change_keeps_valid t (changes.PutSub row) v k = (sub_put t row v k, refl)

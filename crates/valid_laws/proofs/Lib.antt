@@ -9,7 +9,9 @@ pub mod Ending
 pub mod Exceptions
 pub mod Extending
 pub mod Fitting
+pub mod Framing
 pub mod Going
+pub mod Judging
 pub mod Keeping
 pub mod Leaving
 pub mod Lowering
@@ -22,7 +24,9 @@ pub mod Placing
 pub mod Putting
 pub mod Retrying
 pub mod Runs
+pub mod Saying
 pub mod Slotted
 pub mod Still
 pub mod Subscribing
+pub mod Tabling
 pub mod Undone

@@ -1,22 +1,21 @@
 -- What a session commits goes well, one pending change after another.
-use Rattle.std.proofs.Common.{◌⊎◌, inl, inr, ◌≡◌, ◌≤◌, ◌<◌, ◌+◌, ℕ, suc, List, [], ◌∷◌, Bool, true, false, max, refl, sym, ap, ◌∙◌, subst, arith, Option, Some, None, ◌==◌, ◌&&◌, ℤ}
-use Rattle.std.specs.Prelude.{nat_le, nat_lt, option_map, option_and_then, pos, neg_ℤ, int_le, int_lt, All, AllPairs, get_or, if◌then◌else◌}
+use Rattle.std.proofs.Common.{◌⊎◌, inl, inr, ◌≡◌, ◌≤◌, ◌<◌, ◌+◌, ℕ, suc, List, [], ◌∷◌, Bool, true, false, max, refl, sym, ap, ◌∙◌, subst, arith, Option, Some, None, ◌==◌}
+use Rattle.std.specs.Prelude.{nat_le, nat_lt, flat_map, option_map, pos, neg_ℤ, int_le, All, AllPairs, get_or, if◌then◌else◌}
 use Rattle.std.specs.Option.{option_map_or}
 use Rattle.std.specs.Str.{bytes_eq}
-use Rattle.std.proofs.lemmas.Bool.{eqb-true, eqb-false, eq-eqb, ne_eqb, and_parts, leb-true, ltb-true, ltb-false, not-true, false≢true, true≢false}
+use Rattle.std.proofs.lemmas.Bool.{ne_eqb, and_parts, leb-true, ltb-true, ltb-false, lt-ltb, not-true}
 use Rattle.std.proofs.lemmas.Option.{none-some}
 use Rattle.std.proofs.lemmas.List.Elements.{All-head, All-tail, All-cons, All-nil}
 use Rattle.aq_base.specs.declared.limits.TheConstants.{MOMENT_LIMIT}
-use Rattle.queue_rows.specs.Rows.{find_message, find_queue, find_table, with_slot, slot_of}
-use Rattle.queue_rows.specs.Tables.{after_change, in_state, lowered, is_grouped, is_grouped_table, min_int, lane_of}
-use Rattle.queue_rows.specs.Settling.{is_exception, is_open, if_it}
+use Rattle.queue_rows.specs.Rows.{find_message, find_queue, find_table}
+use Rattle.queue_rows.specs.Tables.{after_change, after_all, in_state, lowered, lane_of}
+use Rattle.queue_rows.specs.Settling.{is_exception, settling, names_of}
 use Rattle.queue_rows.specs.Commits.{place_at_commit, completed_in, completed_by, completed, changes_from, commit_of}
 use Rattle.queue_rows.specs.Valid.{is_valid, is_valid_queue, has_right_lowest, has_right_numbers}
 use Rattle.queue_rows.specs.Fits.{fits}
 use Rattle.queue_rows.specs.declared.tables.Tables.{Tables}
 use Rattle.queue_rows.specs.declared.rows.QueueRow.{QueueRow}
 use Rattle.queue_rows.specs.declared.rows.MsgRow.{MsgRow}
-use Rattle.queue_rows.specs.declared.rows.SlotRow.{SlotRow}
 use Rattle.queue_rows.specs.declared.rows.SlotState.TheVariants as states
 use Rattle.queue_rows.specs.declared.session.Pending.{Pending}
 use Rattle.queue_rows.specs.declared.session.Pending.TheVariants.{Add, Remove}
@@ -24,17 +23,17 @@ use Rattle.queue_rows.specs.declared.change.Change.TheVariants as changes
 use Rattle.row_laws.proofs.Finding.{find_other_last}
 use Rattle.row_laws.proofs.Latest.{at_latest}
 use Rattle.row_laws.proofs.Queues.{lowered_name, lowered_seen}
-use Rattle.row_laws.proofs.Slots.{slot_of-with_other}
-use Rattle.row_laws.proofs.Messages.{id_found, finds_changed}
 use Rattle.valid_laws.specs.Openness.{is_open_slot, is_open_at}
 use Rattle.valid_laws.specs.ValidLaws.{PutsRight}
-use Rattle.valid_laws.specs.PendingLaws.{IsAdditionRight, IsPendingRight, AreApart, count_passed, depth_of, MayCommit}
+use Rattle.valid_laws.specs.Touching.{is_put_in}
+use Rattle.valid_laws.specs.PendingLaws.{IsAdditionRight, IsPendingRight, AreApart, count_passed, depth_of, HasRoom, MayCommit}
 use Rattle.valid_laws.proofs.Parts.{and_l, and_r, all_found, parts_of}
-use Rattle.valid_laws.proofs.Opened.{open_at}
+use Rattle.valid_laws.proofs.Opened.{open_at, open_stays, none_stays}
+use Rattle.valid_laws.proofs.Framing.{lowered_le, lowered_depth, other_id, settled_none, room_less, room_put}
 use Rattle.valid_laws.proofs.Keeping.{later_is_valid}
-use Rattle.valid_laws.proofs.Lowering.{le_trans_z, le_refl_z, min_left, find_either, numbers_of}
-use Rattle.valid_laws.proofs.Completing.{depth_within, depth_known, depth_min, lane_depth, place_right, row, slots_right}
-use Rattle.valid_laws.proofs.Going.{GoesWell, nothing_goes, goes_on, goes_one, other_id, settled_fits}
+use Rattle.valid_laws.proofs.Lowering.{le_trans_z, le_refl_z, find_either, numbers_of}
+use Rattle.valid_laws.proofs.Completing.{depth_within, depth_known, lane_depth, place_right, row, slots_right}
+use Rattle.valid_laws.proofs.Going.{GoesWell, nothing_goes, goes_on, goes_one, goes_behind, goes_settled, after_append, fits_if_goes}
 
 -- ---- lists
 
@@ -45,48 +44,8 @@ module _ {X : Type 0} (R : X → X → Type 0) where
   pub pairs-tail : (x : X) (xs : List X) → AllPairs R (x ∷ xs) → AllPairs R xs
   pairs-tail x xs h = λ i j d lt le. h (suc i) (suc j) d (omega (arith, lt)) (omega (arith, le))
 
-  pairs-one : (x : X) → AllPairs R (x ∷ [])
+  pub pairs-one : (x : X) → AllPairs R (x ∷ [])
   pairs-one x = λ i j d lt le. absurd (let no : j < 1 = le in omega arith)
-
--- ---- a slot stays open where another one is removed
-
-pub open_of : (t : Tables) (id slot : ℕ) (m : MsgRow) → find_message t id ≡ Some m → is_open_slot slot m ≡ true → is_open_at t id slot ≡ true
-open_of t id slot m e h = ap (λ o. option_map_or (is_open_slot slot) o false) e ∙ h
-
-module _ (f : SlotRow → SlotRow) (t : Tables) (named a : ℕ) where
-  abbrev pub changed : Tables
-  changed = Rattle.queue_rows.specs.Tables.changed_slot t named a f
-
-  other_open : (m : MsgRow) (slot : ℕ) (b : Bool) → (a == slot) ≡ b → b ≡ false → is_open_slot slot m ≡ true → is_open_slot slot (with_slot a f m) ≡ true
-  other_open m slot true e g h = absurd (true≢false g)
-  other_open m slot false e g h = ap (λ o. option_map_or (λ s. is_open s.state) o false) (slot_of-with_other a slot f m (eqb-false a slot e)) ∙ h
-
-  apart_slot : (x y : Bool) → x ≡ true → (x && y) ≡ false → y ≡ false
-  apart_slot true y e h = h
-  apart_slot false y e h = absurd (false≢true e)
-
-  open_by : (id slot : ℕ) (m : MsgRow) (b : Bool) → (m.id == named) ≡ b → m.id ≡ id → find_message t id ≡ Some m → is_open_slot slot m ≡ true → ((named == id) && (a == slot)) ≡ false → is_open_at changed id slot ≡ true
-  open_by id slot m true e i g h d =
-      let yes : if_it m named (Some (with_slot a f m)) ≡ Some (with_slot a f m) = rw e refl in
-      let same : (named == id) ≡ true = eq-eqb named id (sym (eqb-true m.id named e) ∙ i) in
-      open_of changed id slot (with_slot a f m)
-      (finds_changed t (with_slot a f) (λ x. refl) named id ∙ ap (option_and_then (λ x. if_it x named (Some (with_slot a f x)))) g ∙ yes)
-      (other_open m slot (a == slot) refl (apart_slot (named == id) (a == slot) same d) h)
-  open_by id slot m false e i g h d =
-      let no : if_it m named (Some (with_slot a f m)) ≡ Some m = rw e refl in
-      open_of changed id slot m (finds_changed t (with_slot a f) (λ x. refl) named id ∙ ap (option_and_then (λ x. if_it x named (Some (with_slot a f x)))) g ∙ no) h
-
-  some_open : (m : MsgRow) (slot : ℕ) (o : Option SlotRow) → slot_of m slot ≡ o → (s : SlotRow) → o ≡ Some s → is_open s.state ≡ true → is_open_slot slot m ≡ true
-  some_open m slot o e s g h = ap (λ x. option_map_or (λ y. is_open y.state) x false) (e ∙ g) ∙ h
-
-  pub open_stays : (id slot : ℕ) → ((named == id) && (a == slot)) ≡ false → is_open_at t id slot ≡ true → is_open_at changed id slot ≡ true
-  open_stays id slot d h =
-      let x = open_at t id slot h in
-      open_by id slot x.message (x.message.id == named) refl (id_found t id x.message x.found) x.found
-      (some_open x.message slot (slot_of x.message slot) refl x.open_there.row x.open_there.there x.open_there.is_open_row) d
-
-  pub none_stays : (id : ℕ) → find_message t id ≡ None → find_message changed id ≡ None
-  none_stays id h = finds_changed t (with_slot a f) (λ x. refl) named id ∙ ap (option_and_then (λ x. if_it x named (Some (with_slot a f x)))) h
 
 -- ---- numbers
 
@@ -144,10 +103,10 @@ right_behind_removal : (u : Tables) (moment id slot at : ℕ) (p : Pending) → 
 right_behind_removal u moment id slot at (Add m) k d = addition_stays u moment id slot at m k
 right_behind_removal u moment id slot at (Remove other behind) k d = open_stays (in_state states.Processed at) u id slot other behind d k
 
-removal_goes : (group moment id slot : ℕ) (more : List Pending) (u : Tables) → Stands group moment (Remove id slot ∷ more) u → GoesWell u (changes.Done id slot moment ∷ [])
+removal_goes : (group moment id slot : ℕ) (more : List Pending) (u : Tables) → Stands group moment (Remove id slot ∷ more) u → GoesWell true u (changes.Done id slot moment ∷ [])
 removal_goes group moment id slot more u s =
-    goes_one u (changes.Done id slot moment) s.valid
-    (record { is_open_there = All-head (IsPendingRight u moment) (Remove id slot) more s.right; in_time = omega (arith, s.latest) }) refl
+    goes_one true u (changes.Done id slot moment) s.valid
+    (record { is_open_there = All-head (IsPendingRight u moment) (Remove id slot) more s.right; in_time = omega (arith, s.latest) }) refl (λ _. refl)
 
 behind_removal : (group moment id slot : ℕ) (more : List Pending) (u : Tables) → Stands group moment (Remove id slot ∷ more) u → Stands group moment more (after_change u (changes.Done id slot moment))
 behind_removal group moment id slot more u s =
@@ -195,20 +154,6 @@ lanes_by : (id next c d dk e : ℕ) (b : Bool) → nat_lt id next ≡ b → (if 
 lanes_by id next c d dk e true g h k l n if_passed if_not = let x : n ≡ c = if_passed refl in omega (arith, x)
 lanes_by id next c d dk e false g h k l n if_passed if_not = let x : n ≡ 0 = if_not refl in let y = ltb-false id next g in omega (arith, x, y)
 
-lowered_le_by : (q : QueueRow) (lane : ℤ) (b : Bool) → int_le (if b then q else record q { lowest = min_int q.lowest lane }).lowest q.lowest ≡ true
-lowered_le_by q lane true = le_refl_z q.lowest
-lowered_le_by q lane false = min_left q.lowest lane (int_lt q.lowest lane) refl
-
-lowered_le : (u : Tables) (r : MsgRow) (q : QueueRow) → int_le (lowered u r q).lowest q.lowest ≡ true
-lowered_le u r q = lowered_le_by q (lane_of r.place) (is_grouped u.tables q)
-
-lowered_depth_by : (q : QueueRow) (lane : ℤ) (b : Bool) → depth_of (if b then q else record q { lowest = min_int q.lowest lane }).lowest ≤ max (depth_of q.lowest) (depth_of lane)
-lowered_depth_by q lane true = omega arith
-lowered_depth_by q lane false = depth_min q.lowest lane
-
-lowered_depth : (u : Tables) (r : MsgRow) (q : QueueRow) → depth_of (lowered u r q).lowest ≤ max (depth_of q.lowest) (depth_of (lane_of r.place))
-lowered_depth u r q = lowered_depth_by q (lane_of r.place) (is_grouped u.tables q)
-
 passed_stay : (n k : ℕ) (rest : List Pending) → n ≡ k → count_passed n rest ≡ count_passed k rest
 passed_stay n k rest e = ap (λ j. count_passed j rest) e
 
@@ -252,8 +197,8 @@ module _ (group moment : ℕ) (m : MsgRow) (more : List Pending) (u : Tables) (s
     groups = max_most u.transaction (group + 1) (max u.next (m.id + 1)) s.transaction group_room;
   }
 
-  addition_goes : GoesWell u (changes.Enqueued added ∷ [])
-  addition_goes = goes_one u (changes.Enqueued added) s.valid puts refl
+  addition_goes : GoesWell true u (changes.Enqueued added ∷ [])
+  addition_goes = goes_one true u (changes.Enqueued added) s.valid puts refl (λ _. refl)
 
   abbrev then_tables : Tables
   then_tables = after_change u (changes.Enqueued added)
@@ -343,17 +288,17 @@ module _ (group moment : ℕ) (m : MsgRow) (more : List Pending) (u : Tables) (s
 
 -- ---- all of it
 
-pending_goes : (rest : List Pending) (u : Tables) (group moment : ℕ) → Stands group moment rest u → GoesWell u (changes_from u group moment rest)
-pending_goes [] u group moment s = nothing_goes u s.valid
+pub pending_goes : (rest : List Pending) (u : Tables) (group moment : ℕ) → Stands group moment rest u → GoesWell true u (changes_from u group moment rest)
+pending_goes [] u group moment s = nothing_goes true u s.valid
 pending_goes (Remove id slot ∷ more) u group moment s =
     let c = changes.Done id slot moment in
-    goes_on u (c ∷ []) (changes_from (after_change u c) group moment more) (removal_goes group moment id slot more u s)
+    goes_on true u (c ∷ []) (changes_from (after_change u c) group moment more) (removal_goes group moment id slot more u s)
     (pending_goes more (after_change u c) group moment (behind_removal group moment id slot more u s))
 pending_goes (Add m ∷ more) u group moment s =
     let k : IsAdditionRight u moment m = All-head (IsPendingRight u moment) (Add m) more s.right in
     let c = changes.Enqueued (added group moment m more u s k) in
-    subst (λ r. GoesWell u (changes.Enqueued r ∷ changes_from (after_change u (changes.Enqueued r)) group moment more)) (sym (completed_is u group moment m k))
-    (goes_on u (c ∷ []) (changes_from (after_change u c) group moment more) (addition_goes group moment m more u s k)
+    subst (λ r. GoesWell true u (changes.Enqueued r ∷ changes_from (after_change u (changes.Enqueued r)) group moment more)) (sym (completed_is u group moment m k))
+    (goes_on true u (c ∷ []) (changes_from (after_change u c) group moment more) (addition_goes group moment m more u s k)
     (pending_goes more (after_change u c) group moment (behind_addition group moment m more u s k)))
 
 -- ---- a commit
@@ -409,11 +354,49 @@ stands_first t moment pending v le top k = record {
   first = first_group t v;
 }
 
+-- what may be committed goes well at its moment, before and with what it settles
+pub pending_first : (t : Tables) (moment : ℕ) (pending : List Pending) → is_valid t ≡ true → t.latest ≤ moment → moment ≤ MOMENT_LIMIT → MayCommit t moment pending → GoesWell true (at_latest moment t) (changes_from t t.transaction moment pending)
+pending_first t moment pending v le top k =
+    subst (GoesWell true (at_latest moment t)) (changes_later pending t moment t.transaction moment) (pending_goes pending (at_latest moment t) t.transaction moment (stands_first t moment pending v le top k))
+
+pub commit_goes : (t : Tables) (moment : ℕ) (pending : List Pending) → is_valid t ≡ true → t.latest ≤ moment → moment ≤ MOMENT_LIMIT → MayCommit t moment pending → GoesWell true (at_latest moment t) (commit_of t moment pending)
+commit_goes t moment pending v le top k = goes_settled true (at_latest moment t) (changes_from t t.transaction moment pending) (pending_first t moment pending v le top k)
+
 pub pending_fits : (t : Tables) (moment : ℕ) (pending : List Pending) → is_valid t ≡ true → t.latest ≤ moment → moment ≤ MOMENT_LIMIT → MayCommit t moment pending
     → fits t (record { moment = moment; changes = commit_of t moment pending }) ≡ true
-pending_fits t moment pending v le top k =
-    settled_fits t moment (changes_from t t.transaction moment pending) le
-    (subst (GoesWell (at_latest moment t)) (changes_later pending t moment t.transaction moment) (pending_goes pending (at_latest moment t) t.transaction moment (stands_first t moment pending v le top k)))
+pending_fits t moment pending v le top k = fits_if_goes true t moment (commit_of t moment pending) le (commit_goes t moment pending v le top k)
+
+-- ---- room behind it, for what others hold
+
+passed_first : (m : MsgRow) (n : ℕ) (more : List Pending) → m.id < n → count_passed n (Add m ∷ more) ≡ 1 + count_passed n more
+passed_first m n more lt = ap (λ b. (if b then 1 else 0) + count_passed n more) (lt-ltb m.id n lt)
+
+transaction_up : (a b : ℕ) → a ≤ max a b
+transaction_up a b = omega arith
+
+room_rest : (rest : List Pending) (u : Tables) (group moment : ℕ) (others : ℕ → ℕ) → Stands group moment rest u → group ≤ u.transaction → HasRoom u (λ n. count_passed n rest + others n) → HasRoom (after_all u (changes_from u group moment rest)) others
+room_rest [] u group moment others s g r = room_less u (λ n. count_passed n [] + others n) others (λ n. omega arith) r
+room_rest (Remove id slot ∷ more) u group moment others s g r =
+    room_rest more (after_change u (changes.Done id slot moment)) group moment others (behind_removal group moment id slot more u s) g (record { lanes = r.lanes; groups = r.groups })
+room_rest (Add m ∷ more) u group moment others s g r =
+    let k : IsAdditionRight u moment m = All-head (IsPendingRight u moment) (Add m) more s.right in
+    let row = added group moment m more u s k in
+    subst (λ x. HasRoom (after_all u (changes.Enqueued x ∷ changes_from (after_change u (changes.Enqueued x)) group moment more)) others) (sym (completed_is u group moment m k))
+    (room_rest more (after_change u (changes.Enqueued row)) group moment others (behind_addition group moment m more u s k) (let up = transaction_up u.transaction (group + 1) in omega (arith, g, up))
+    (room_put u row k.queue k.queue_is (lane_known group moment m more u s k) g (λ n. count_passed n (Add m ∷ more) + others n) (λ n. count_passed n more + others n)
+    (λ n le lt. let e = passed_first m n more lt in omega (arith, e)) r))
+
+-- where there was room for what is committed and for what others hold, there is room for theirs behind it
+pub commit_leaves_room : (t : Tables) (moment : ℕ) (pending : List Pending) (others : ℕ → ℕ) → is_valid t ≡ true → t.latest ≤ moment → moment ≤ MOMENT_LIMIT → MayCommit t moment pending
+    → HasRoom t (λ n. count_passed n pending + others n) → HasRoom (after_all (at_latest moment t) (commit_of t moment pending)) others
+commit_leaves_room t moment pending others v le top k r =
+    let w = at_latest moment t in
+    let cs = changes_from t t.transaction moment pending in
+    let first = pending_first t moment pending v le top k in
+    let behind : HasRoom (after_all w cs) others =
+    subst (λ ds. HasRoom (after_all w ds) others) (changes_later pending t moment t.transaction moment)
+    (room_rest pending w t.transaction moment others (stands_first t moment pending v le top k) (omega arith) (record { lanes = r.lanes; groups = r.groups })) in
+    subst (λ x. HasRoom x others) (sym (after_append w cs (flat_map (settling w cs) (names_of cs)))) ((goes_behind true w cs first).room (settled_none is_put_in (λ id queue at. refl) (λ id. refl) w cs) others behind)
 
 lowest_at_least : (u : Tables) (name : List ℕ) (q : QueueRow) → is_valid u ≡ true → find_queue u name ≡ Some q → int_le (neg_ℤ (pos u.next)) q.lowest ≡ true
 lowest_at_least u name q v e =
@@ -422,7 +405,7 @@ lowest_at_least u name q v e =
     (and_parts (int_le q.lowest (pos 0)) (int_le (neg_ℤ (pos u.next)) q.lowest) l).1
 
 -- one removal may be committed where its slot is open
-removal_may : (t : Tables) (moment id slot : ℕ) → is_valid t ≡ true → is_open_at t id slot ≡ true → MayCommit t moment (Remove id slot ∷ [])
+pub removal_may : (t : Tables) (moment id slot : ℕ) → is_valid t ≡ true → is_open_at t id slot ≡ true → MayCommit t moment (Remove id slot ∷ [])
 removal_may t moment id slot v o = record {
   right = All-cons (IsPendingRight t moment) (Remove id slot) [] o (All-nil (IsPendingRight t moment));
   apart = pairs-one AreApart (Remove id slot);

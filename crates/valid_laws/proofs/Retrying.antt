@@ -1,8 +1,8 @@
 -- What a rollback commits goes well: a retry, or a retry too many with the expiry behind it.
-use Rattle.std.proofs.Common.{◌≡◌, ◌≤◌, ◌<◌, ◌+◌, ◌-◌, ◌^◌, ℕ, zero, suc, List, [], ◌∷◌, Bool, true, false, not, length, refl, sym, ap, ◌∙◌, subst, arith, Option, Some, None, ◌==◌, ◌&&◌}
+use Rattle.std.proofs.Common.{◌≡◌, ◌≤◌, ◌<◌, ◌+◌, ◌-◌, ◌^◌, ℕ, zero, suc, List, [], ◌∷◌, Bool, true, false, not, length, refl, sym, ap, ◌∙◌, subst, arith, Option, Some, None, ◌==◌, ◌&&◌, ◌||◌}
 use Rattle.std.specs.Prelude.{flat_map, nat_le, nat_lt, slice_get, option_and_then, All, AllPairs, get_or, if◌then◌else◌}
 use Rattle.std.specs.Option.{option_map_or}
-use Rattle.std.proofs.lemmas.Bool.{eq-eqb, and_parts, and_from, le-leb, leb-true, ltb-false, not_from_false, true≢false}
+use Rattle.std.proofs.lemmas.Bool.{eq-eqb, and_parts, and_from, or_parts, le-leb, leb-true, ltb-false, not_from_false, true≢false}
 use Rattle.std.proofs.lemmas.Option.{slice_get_within}
 use Rattle.std.proofs.lemmas.List.Elements.{All-head, All-tail}
 use Rattle.aq_base.specs.declared.limits.TheConstants.{MAX_RETRIES_LIMIT, MOMENT_LIMIT}
@@ -31,15 +31,17 @@ use Rattle.valid_laws.specs.Openness.{is_open_at}
 use Rattle.valid_laws.specs.ValidLaws.{MayBeChanged, ChangesUnmoved, Retries}
 use Rattle.valid_laws.specs.RollbackLaws.{IsRemovalOpen, AreOther, MayRollBack}
 use Rattle.valid_laws.proofs.Parts.{valid_distinct}
-use Rattle.valid_laws.proofs.Opened.{open_at}
+use Rattle.valid_laws.specs.Touching.{are_proper}
+use Rattle.valid_laws.proofs.Framing.{lowered_self}
+use Rattle.valid_laws.proofs.Opened.{open_at, open_stays, open_still, none_stays, finished_apart, finished_stays}
 use Rattle.valid_laws.proofs.Keeping.{later_is_valid}
 use Rattle.valid_laws.proofs.Slotted.{slot_keeps_valid}
 use Rattle.valid_laws.proofs.Exceptions.{home_of}
 use Rattle.valid_laws.proofs.Leaving.{all_leave}
 use Rattle.valid_laws.proofs.Calming.{all_get, take_get}
 use Rattle.valid_laws.proofs.Fitting.{slots_known, max_retries_of, open_has_slot, unmoved_row, retried_name, retried_address, retried_retries}
-use Rattle.valid_laws.proofs.Going.{GoesWell, nothing_goes, goes_on, goes_one, settled_fits}
-use Rattle.valid_laws.proofs.Pending.{pairs-head, pairs-tail, open_stays}
+use Rattle.valid_laws.proofs.Going.{GoesWell, nothing_goes, goes_on, goes_one, goes_settled, fits_if_goes}
+use Rattle.valid_laws.proofs.Pending.{pairs-head, pairs-tail}
 
 -- ---- one slot is changed twice
 
@@ -85,6 +87,10 @@ changed_twice t id slot f g =
 
 -- ---- a retry too many
 
+retried_open : (retries : ℕ) (until : Option ℕ) (at : ℕ) (s : SlotRow) → is_open (retried retries until at s).state ≡ true
+retried_open retries None at s = refl
+retried_open retries (Some n) at s = refl
+
 module _ (t : Tables) (id slot retries : ℕ) (until : Option ℕ) (at : ℕ) (v : is_valid t ≡ true) (k : ChangesUnmoved t id slot at) (most : retries ≤ 2 ^ 31) where
   given_up : (m : MsgRow) (queue : QueueRow) → find_message t id ≡ Some m → find_queue t m.queue ≡ Some queue → MayBeChanged t.latest queue m slot (λ s. in_state states.Expired at (retried retries until at s))
   given_up m queue e g = record {
@@ -116,7 +122,11 @@ module _ (t : Tables) (id slot retries : ℕ) (until : Option ℕ) (at : ℕ) (v
       and_from (has_slot_at t id slot) (has_slot_at (after_change t (changes.Retried id slot retries until at)) id slot && true) (open_has_slot t id slot k.changes_open.is_open_there)
       (and_from (has_slot_at (after_change t (changes.Retried id slot retries until at)) id slot) true there_still refl)
 
-  pub both_go : GoesWell t (changes.Retried id slot retries until at ∷ changes.Expired id slot at ∷ [])
+  abbrev once : Tables
+  once = after_change t (changes.Retried id slot retries until at)
+
+  pub both_go : GoesWell true t (changes.Retried id slot retries until at ∷ changes.Expired id slot at ∷ [])
+  unfolding are_proper
   both_go = record {
     valid = gives_up;
     names = names_both;
@@ -124,6 +134,14 @@ module _ (t : Tables) (id slot retries : ℕ) (until : Option ℕ) (at : ℕ) (v
     in_time = let le = le-leb at t.latest k.changes_open.in_time in and_from (nat_le at t.latest) (nat_le at t.latest && true) le (and_from (nat_le at t.latest) true le refl);
     queues = λ name. refl;
     found = λ n r h. finds_after_all t (changes.Retried id slot retries until at ∷ changes.Expired id slot at ∷ []) n (valid_distinct t v) (all_leave t (changes.Retried id slot retries until at ∷ changes.Expired id slot at ∷ []) n refl refl) ∙ h;
+    tables = refl;
+    lower = λ name q f. lowered_self (after_all t (changes.Retried id slot retries until at ∷ changes.Expired id slot at ∷ [])) name q f;
+    new = λ n h p. none_stays (in_state states.Expired at) once id slot n (none_stays (retried retries until at) t id slot n h);
+    rests = λ n p h. let o = k.changes_open.is_open_there in let d = finished_apart t n id slot h o in finished_stays (in_state states.Expired at) once id slot n d (finished_stays (retried retries until at) t id slot n d h);
+    next = λ n le p. le;
+    room = λ p held r. record { lanes = r.lanes; groups = r.groups };
+    spares = λ yes n a p h. let d = (or_parts ((id == n) && (slot == a)) (((id == n) && (slot == a)) || false) p).0 in open_stays (in_state states.Expired at) once id slot n a d (open_stays (retried retries until at) t id slot n a d h);
+    proper = λ yes. and_from (is_open_at t id slot) (is_open_at once id slot && true) k.changes_open.is_open_there (and_from (is_open_at once id slot) true (open_still (retried retries until at) t id slot (retried_open retries until at) k.changes_open.is_open_there) refl);
   }
 
 pub giving_up : (t : Tables) (id slot retries : ℕ) (until : Option ℕ) (at : ℕ) → is_valid t ≡ true → ChangesUnmoved t id slot at → retries ≤ 2 ^ 31
@@ -231,11 +249,11 @@ module _ (t u : Tables) (moment id slot : ℕ) (more : List Pending) (v : is_val
 
   -- the changes go well, and the others wait behind them
   pub record GoesAndWaits (cs : List Change) : Type 0 where
-    pub goes : GoesWell u cs
+    pub goes : GoesWell true u cs
     pub waits : Waits t moment more (after_all u cs)
 
   none_goes : GoesAndWaits []
-  none_goes = record { goes = nothing_goes u w.valid; waits = record { valid = w.valid; latest = w.latest; alike = w.alike; open_all = rest_open } }
+  none_goes = record { goes = nothing_goes true u w.valid; waits = record { valid = w.valid; latest = w.latest; alike = w.alike; open_all = rest_open } }
 
   unmoved_there : (m : MsgRow) (q : QueueRow) (s : SlotRow) → find_message t id ≡ Some m → m.moved ≡ false → ChangesUnmoved u id slot moment
   unmoved_there m q s e un =
@@ -255,7 +273,7 @@ module _ (t u : Tables) (moment id slot : ℕ) (more : List Pending) (v : is_val
             let it : q ≡ queue = (let a : Some q ≡ Some queue = sym named ∙ k in cc) in
             subst (λ y. s.retries + 1 ≤ y.max_retries) it few;
       } in
-      let goes = goes_one u (changes.Retried id slot (s.retries + 1) until moment) w.valid keeps refl in
+      let goes = goes_one true u (changes.Retried id slot (s.retries + 1) until moment) w.valid keeps refl (λ _. refl) in
       record {
         goes = goes;
         waits = record {
@@ -313,15 +331,15 @@ open_row t id slot o m s e h =
     let row : x.open_there.row ≡ s = (let a : Some x.open_there.row ≡ Some s = sym x.open_there.there ∙ ap (λ y. slot_of y slot) same ∙ h in cc) in
     ap (λ y. is_open y.state) (sym row) ∙ x.open_there.is_open_row
 
-rollback_goes : (t : Tables) → is_valid t ≡ true → (moment : ℕ) (rest : List Pending) (u : Tables) → Waits t moment rest u → All (IsRemovalOpen t) rest → AllPairs AreOther rest → GoesWell u (flat_map (retry_of t moment) rest)
-rollback_goes t v moment [] u w o d = nothing_goes u w.valid
+rollback_goes : (t : Tables) → is_valid t ≡ true → (moment : ℕ) (rest : List Pending) (u : Tables) → Waits t moment rest u → All (IsRemovalOpen t) rest → AllPairs AreOther rest → GoesWell true u (flat_map (retry_of t moment) rest)
+rollback_goes t v moment [] u w o d = nothing_goes true u w.valid
 rollback_goes t v moment (Add m ∷ more) u w o d =
     rollback_goes t v moment more u (record { valid = w.valid; latest = w.latest; alike = w.alike; open_all = All-tail (IsRemovalOpen u) (Add m) more w.open_all }) (All-tail (IsRemovalOpen t) (Add m) more o) (pairs-tail AreOther (Add m) more d)
 rollback_goes t v moment (Remove id slot ∷ more) u w o d =
     let was_open : is_open_at t id slot ≡ true = All-head (IsRemovalOpen t) (Remove id slot) more o in
     let one = message_goes t u moment id slot more v w (pairs-head AreOther (Remove id slot) more d) (find_message t id) refl (λ m s e h. open_row t id slot was_open m s e h) in
     let cs = retry_message t (find_message t id) moment id slot in
-    goes_on u cs (flat_map (retry_of t moment) more) one.goes
+    goes_on true u cs (flat_map (retry_of t moment) more) one.goes
     (rollback_goes t v moment more (after_all u cs) one.waits (All-tail (IsRemovalOpen t) (Remove id slot) more o) (pairs-tail AreOther (Remove id slot) more d))
 
 -- ---- a rollback
@@ -333,9 +351,12 @@ open_later t moment (Remove id slot) h = h
 pub alike_later : (t : Tables) (moment : ℕ) → IsAlike t (at_latest moment t)
 alike_later t moment = record { queues = λ name. refl; rows = λ id m e. record { row = m; is_row = e; queue = refl; moved = refl } }
 
-pub rollback_fits : (t : Tables) (moment : ℕ) (pending : List Pending) → is_valid t ≡ true → t.latest ≤ moment → moment ≤ MOMENT_LIMIT → MayRollBack t pending
-    → fits t (record { moment = moment; changes = rollback_of t moment pending }) ≡ true
-rollback_fits t moment pending v le top k =
-    settled_fits t moment (flat_map (retry_of t moment) pending) le
+pub rollback_goes_well : (t : Tables) (moment : ℕ) (pending : List Pending) → is_valid t ≡ true → t.latest ≤ moment → moment ≤ MOMENT_LIMIT → MayRollBack t pending → GoesWell true (at_latest moment t) (rollback_of t moment pending)
+rollback_goes_well t moment pending v le top k =
+    goes_settled true (at_latest moment t) (flat_map (retry_of t moment) pending)
     (rollback_goes t v moment pending (at_latest moment t)
     (record { valid = later_is_valid t moment le v top; latest = refl; alike = alike_later t moment; open_all = λ i d lt. open_later t moment (get_or pending i d) (k.open_all i d lt) }) k.open_all k.other)
+
+pub rollback_fits : (t : Tables) (moment : ℕ) (pending : List Pending) → is_valid t ≡ true → t.latest ≤ moment → moment ≤ MOMENT_LIMIT → MayRollBack t pending
+    → fits t (record { moment = moment; changes = rollback_of t moment pending }) ≡ true
+rollback_fits t moment pending v le top k = fits_if_goes true t moment (rollback_of t moment pending) le (rollback_goes_well t moment pending v le top k)

@@ -10,10 +10,10 @@ use Rattle.aq_base.specs.declared.DbId.{DbId}
 use Rattle.aq_base.specs.declared.limits.TheConstants.{MOMENT_LIMIT}
 use Rattle.queue_rows.specs.Rows.{find_message, slot_of, with_slot, recipient_count}
 use Rattle.queue_rows.specs.Tables.{after_change, after_all, in_state, changed_slot}
-use Rattle.queue_rows.specs.Settling.{is_open, is_ready, is_processed, if_it}
+use Rattle.queue_rows.specs.Settling.{is_open, is_ready, is_processed, is_handled, retention_of, if_it}
 use Rattle.queue_rows.specs.Session.{Session}
 use Rattle.queue_rows.specs.Distinct.{are_distinct}
-use Rattle.queue_rows.specs.Due.{Watch, slot_numbers, is_over, is_left, due_slot, due_slots, is_spent, due_purge, due}
+use Rattle.queue_rows.specs.Due.{Watch, slot_numbers, is_over, is_left, due_slot, due_slots, is_spent, is_taken, last_taken, due_purge, due}
 use Rattle.queue_rows.specs.Valid.{is_valid, is_same_message, is_right_if_moved, is_right_slot_zero}
 use Rattle.queue_rows.specs.Fits.{fits, is_unmoved_at}
 use Rattle.queue_rows.specs.declared.tables.Tables.{Tables}
@@ -28,7 +28,8 @@ use Rattle.row_laws.proofs.Finding.{find-yes, find-no, find_other_changed, find_
 use Rattle.row_laws.proofs.Latest.{at_latest}
 use Rattle.row_laws.proofs.Slots.{slot_of-with_other}
 use Rattle.row_laws.proofs.Messages.{id_found, ids_apart, finds_changed}
-use Rattle.valid_laws.specs.Openness.{is_open_slot, is_open_at}
+use Rattle.valid_laws.specs.Openness.{is_open_slot, is_open_at, is_finished, is_finished_at}
+use Rattle.valid_laws.specs.Touching.{takes_off}
 use Rattle.valid_laws.proofs.Parts.{valid_distinct}
 use Rattle.valid_laws.proofs.Keeping.{later_is_valid}
 use Rattle.valid_laws.proofs.Doing.{Kind, nothing, expires, readies, changes_by, kind_of, kind_in, due_slot_is}
@@ -36,8 +37,10 @@ use Rattle.valid_laws.proofs.Calming.{is_quiet, quiet_if, flat_none}
 use Rattle.valid_laws.proofs.Ending.{undone}
 use Rattle.valid_laws.proofs.Exceptions.{home_of}
 use Rattle.valid_laws.proofs.Fitting.{slots_known, moved_zero, open_is_zero}
-use Rattle.valid_laws.proofs.Going.{GoesWell, nothing_goes, goes_on, goes_one, after_append, latest_same, settled_fits}
-use Rattle.valid_laws.proofs.Pending.{open_of}
+use Rattle.valid_laws.proofs.Going.{GoesWell, nothing_goes, goes_on, goes_one, goes_settled, after_append, latest_same, fits_if_goes}
+use Rattle.valid_laws.proofs.Opened.{open_of, found_with, finished_of}
+use Rattle.valid_laws.proofs.Framing.{any_flat, handled_finished}
+use Rattle.valid_laws.proofs.Still.{valid_closed}
 use Rattle.valid_laws.proofs.Retrying.{IsAlike, alike_changed, alike_later, unmoved_of}
 
 -- ---- lists of messages with distinct ids
@@ -128,7 +131,7 @@ active_slot w m slot (Some s) e h = ap (λ o. option_map_or (λ x. is_open x.sta
 
 -- changes of a message go well, and leave other messages
 pub record Does (t : Tables) (x : MsgRow) (u : Tables) (cs : List Change) : Type 0 where
-  pub goes : GoesWell u cs
+  pub goes : GoesWell true u cs
   pub alike : IsAlike t (after_all u cs)
   pub others : (id : ℕ) → (x.id == id) ≡ false → find_message (after_all u cs) id ≡ find_message u id
 
@@ -172,17 +175,17 @@ module _ (t : Tables) (w : Watch) (x : MsgRow) (unmoved : x.moved ≡ false) (x_
 
   slot_does : (k : Kind) (slot : ℕ) (u : Tables) (a : At slot u) → (is_active k ≡ true → is_open_slot slot x ≡ true) → DoesAt (slot + 1) u (changes_by k x.id slot w.moment)
   slot_does nothing slot u a o = record {
-    does = record { goes = nothing_goes u a.valid; alike = a.alike; others = λ id e. refl };
+    does = record { goes = nothing_goes true u a.valid; alike = a.alike; others = λ id e. refl };
     at = record { valid = a.valid; latest = a.latest; alike = a.alike; row = a.row; found = a.found; above = λ b le. a.above b (omega (arith, le)) };
   }
   slot_does expires slot u a o =
-      let goes = goes_one u (changes.Expired x.id slot w.moment) a.valid (record { changes_open = record { is_open_there = here_open slot u a (o refl); in_time = in_time slot u a }; unmoved = here_unmoved u a.alike }) refl in
+      let goes = goes_one true u (changes.Expired x.id slot w.moment) a.valid (record { changes_open = record { is_open_there = here_open slot u a (o refl); in_time = in_time slot u a }; unmoved = here_unmoved u a.alike }) refl (λ _. refl) in
       record {
         does = record { goes = goes; alike = alike_changed t u x.id slot (in_state states.Expired w.moment) a.alike; others = others_changed slot (in_state states.Expired w.moment) u };
         at = changed_at slot (in_state states.Expired w.moment) u a goes.valid;
       }
   slot_does readies slot u a o =
-      let goes = goes_one u (changes.Ready x.id slot w.moment) a.valid (record { is_open_there = here_open slot u a (o refl); in_time = in_time slot u a }) refl in
+      let goes = goes_one true u (changes.Ready x.id slot w.moment) a.valid (record { is_open_there = here_open slot u a (o refl); in_time = in_time slot u a }) refl (λ _. refl) in
       record {
         does = record { goes = goes; alike = alike_changed t u x.id slot (in_state states.Ready w.moment) a.alike; others = others_changed slot (in_state states.Ready w.moment) u };
         at = changed_at slot (in_state states.Ready w.moment) u a goes.valid;
@@ -190,13 +193,13 @@ module _ (t : Tables) (w : Watch) (x : MsgRow) (unmoved : x.moved ≡ false) (x_
 
   pub does_append : (u : Tables) (cs ds : List Change) → Does t x u cs → Does t x (after_all u cs) ds → Does t x u (cs ++ ds)
   does_append u cs ds a b = record {
-    goes = goes_on u cs ds a.goes b.goes;
+    goes = goes_on true u cs ds a.goes b.goes;
     alike = subst (IsAlike t) (sym (after_append u cs ds)) b.alike;
     others = λ id e. ap (λ y. find_message y id) (after_append u cs ds) ∙ b.others id e ∙ a.others id e;
   }
 
   slots_do : (n low : ℕ) (u : Tables) → At low u → Does t x u (flat_map (λ slot. due_slot w x slot (slot_of x slot)) (range_with_len low n))
-  slots_do zero low u a = record { goes = nothing_goes u a.valid; alike = a.alike; others = λ id e. refl }
+  slots_do zero low u a = record { goes = nothing_goes true u a.valid; alike = a.alike; others = λ id e. refl }
   slots_do (suc n) low u a =
       let k = kind_in w x low (slot_of x low) in
       let one = slot_does k low u a (active_slot w x low (slot_of x low) refl) in
@@ -215,24 +218,24 @@ module _ (t : Tables) (w : Watch) (x : MsgRow) (unmoved : x.moved ≡ false) (x_
 -- ---- all slots
 
 pub does_nothing : (t : Tables) (x : MsgRow) (u : Tables) → is_valid u ≡ true → IsAlike t u → Does t x u []
-does_nothing t x u v k = record { goes = nothing_goes u v; alike = k; others = λ id e. refl }
+does_nothing t x u v k = record { goes = nothing_goes true u v; alike = k; others = λ id e. refl }
 
 does_by : (t : Tables) (w : Watch) (x : MsgRow) (b : Bool) → x.moved ≡ b → is_valid t ≡ true → find_message t x.id ≡ Some x → (u : Tables) → is_valid u ≡ true → u.latest ≡ w.moment → IsAlike t u → find_message u x.id ≡ Some x → Does t x u (due_slots w x)
 does_by t w x true e tv f u v l k g = subst (Does t x u) (sym (moved_nothing t w x tv f e)) (does_nothing t x u v k)
 does_by t w x false e tv f u v l k g = message_does t w x e f u v l k g
 
 pub record SlotsGo (t u : Tables) (cs : List Change) : Type 0 where
-  pub goes : GoesWell u cs
+  pub goes : GoesWell true u cs
   pub alike : IsAlike t (after_all u cs)
 
-slots_go_on : (t : Tables) (u : Tables) (cs ds : List Change) → GoesWell u cs → SlotsGo t (after_all u cs) ds → SlotsGo t u (cs ++ ds)
-slots_go_on t u cs ds g k = record { goes = goes_on u cs ds g k.goes; alike = subst (IsAlike t) (sym (after_append u cs ds)) k.alike }
+slots_go_on : (t : Tables) (u : Tables) (cs ds : List Change) → GoesWell true u cs → SlotsGo t (after_all u cs) ds → SlotsGo t u (cs ++ ds)
+slots_go_on t u cs ds g k = record { goes = goes_on true u cs ds g k.goes; alike = subst (IsAlike t) (sym (after_append u cs ds)) k.alike }
 
 -- what is done for each message of a list
 pub all_do : (t : Tables) (moment : ℕ) (F : MsgRow → List Change)
     → ((x : MsgRow) → find_message t x.id ≡ Some x → (u : Tables) → is_valid u ≡ true → u.latest ≡ moment → IsAlike t u → find_message u x.id ≡ Some x → Does t x u (F x))
     → (xs : List MsgRow) (u : Tables) → is_valid u ≡ true → u.latest ≡ moment → IsAlike t u → AreIn t xs → AreIn u xs → are_distinct is_same_message xs ≡ true → SlotsGo t u (flat_map F xs)
-all_do t moment F does [] u v l k h g d = record { goes = nothing_goes u v; alike = k }
+all_do t moment F does [] u v l k h g d = record { goes = nothing_goes true u v; alike = k }
 all_do t moment F does (x ∷ xs) u v l k h g d =
     let p = and_parts (not (list_any (is_same_message x) xs)) (are_distinct is_same_message xs) d in
     let none = none_is x xs (not-true (list_any (is_same_message x) xs) p.0) in
@@ -250,25 +253,46 @@ all_slots t w tv = all_do t w.moment (due_slots w) (λ x f u v l k g. does_by t 
 purge_other : (u : Tables) (named id : ℕ) → (named == id) ≡ false → find_message (after_change u (changes.Purged named)) id ≡ find_message u id
 purge_other u named id e = find_other_removed (λ m. m.id == named) (λ m. m.id == id) (ids_apart named id e) u.messages
 
-purged_by : (w : Watch) (x : MsgRow) (xs : List MsgRow) (u : Tables) (b : Bool) → is_valid u ≡ true → All (λ m. is_some (find_message u m.id) ≡ true) (x ∷ xs) → NoneIs x.id xs
-    → ((y : Tables) → is_valid y ≡ true → All (λ m. is_some (find_message y m.id) ≡ true) xs → GoesWell y (flat_map (due_purge w) xs))
-    → GoesWell u ((if b then changes.Purged x.id ∷ [] else []) ++ flat_map (due_purge w) xs)
-purged_by w x xs u true v h none ih =
-    let g = goes_one u (changes.Purged x.id) v (All-head (λ m. is_some (find_message u m.id) ≡ true) x xs h) refl in
-    let rest = All-tail (λ m. is_some (find_message u m.id) ≡ true) x xs h in
-    goes_on u (changes.Purged x.id ∷ []) (flat_map (due_purge w) xs) g
-    (ih (after_change u (changes.Purged x.id)) g.valid (λ i e lt. ap is_some (purge_other u x.id (get_or xs i e).id (none i e lt)) ∙ rest i e lt))
-purged_by w x xs u false v h none ih = ih u v (All-tail (λ m. is_some (find_message u m.id) ≡ true) x xs h)
+-- where the message goes, it has no open slot
+abbrev AreFinished : Watch → Tables → List MsgRow → Type 0
+AreFinished w u xs = All (λ m. is_spent w m ≡ true → is_finished_at u m.id ≡ true) xs
 
-all_purged : (w : Watch) (xs : List MsgRow) (u : Tables) → is_valid u ≡ true → All (λ m. is_some (find_message u m.id) ≡ true) xs → are_distinct is_same_message xs ≡ true → GoesWell u (flat_map (due_purge w) xs)
-all_purged w [] u v h d = nothing_goes u v
+there_if_finished : (u : Tables) (id : ℕ) → is_finished_at u id ≡ true → is_some (find_message u id) ≡ true
+there_if_finished u id h = ap is_some (found_with u id is_finished h).1
+
+purged_by : (w : Watch) (x : MsgRow) (xs : List MsgRow) (u : Tables) (b : Bool) → is_spent w x ≡ b → is_valid u ≡ true → AreFinished w u (x ∷ xs) → NoneIs x.id xs
+    → ((y : Tables) → is_valid y ≡ true → AreFinished w y xs → GoesWell true y (flat_map (due_purge w) xs))
+    → GoesWell true u ((if b then changes.Purged x.id ∷ [] else []) ++ flat_map (due_purge w) xs)
+purged_by w x xs u true e v h none ih =
+    let f : is_finished_at u x.id ≡ true = All-head (λ m. is_spent w m ≡ true → is_finished_at u m.id ≡ true) x xs h e in
+    let g = goes_one true u (changes.Purged x.id) v (there_if_finished u x.id f) refl (λ _. f) in
+    let rest = All-tail (λ m. is_spent w m ≡ true → is_finished_at u m.id ≡ true) x xs h in
+    goes_on true u (changes.Purged x.id ∷ []) (flat_map (due_purge w) xs) g
+    (ih (after_change u (changes.Purged x.id)) g.valid (λ i d lt spent. ap (λ o. option_map_or is_finished o false) (purge_other u x.id (get_or xs i d).id (none i d lt)) ∙ rest i d lt spent))
+purged_by w x xs u false e v h none ih = ih u v (All-tail (λ m. is_spent w m ≡ true → is_finished_at u m.id ≡ true) x xs h)
+
+all_purged : (w : Watch) (xs : List MsgRow) (u : Tables) → is_valid u ≡ true → AreFinished w u xs → are_distinct is_same_message xs ≡ true → GoesWell true u (flat_map (due_purge w) xs)
+all_purged w [] u v h d = nothing_goes true u v
 all_purged w (x ∷ xs) u v h d =
     let p = and_parts (not (list_any (is_same_message x) xs)) (are_distinct is_same_message xs) d in
-    purged_by w x xs u (is_spent w x) v h (none_is x xs (not-true (list_any (is_same_message x) xs) p.0)) (λ y yv k. all_purged w xs y yv k p.1)
+    purged_by w x xs u (is_spent w x) refl v h (none_is x xs (not-true (list_any (is_same_message x) xs) p.0)) (λ y yv k. all_purged w xs y yv k p.1)
+
+-- due work of slots takes no message off
+kind_takes_none : (id : ℕ) (k : Kind) (named slot moment : ℕ) → list_any (takes_off id) (changes_by k named slot moment) ≡ false
+kind_takes_none id nothing named slot moment = refl
+kind_takes_none id expires named slot moment = refl
+kind_takes_none id readies named slot moment = refl
+
+slots_take_none : (id : ℕ) (w : Watch) (m : MsgRow) → list_any (takes_off id) (due_slots w m) ≡ false
+slots_take_none id w m =
+    any_flat (takes_off id) (λ slot. due_slot w m slot (slot_of m slot)) (λ slot. ap (list_any (takes_off id)) (due_slot_is w m slot (slot_of m slot)) ∙ kind_takes_none id (kind_in w m slot (slot_of m slot)) m.id slot w.moment) (slot_numbers m)
+
+spent_handled : (w : Watch) (m : MsgRow) → is_spent w m ≡ true → is_handled m ≡ true
+spent_handled w m h = (and_parts (is_handled m) (not (is_taken m) || nat_le (last_taken m + retention_of w.tables m) w.moment) h).0
 
 -- ---- all that is due
 
-undone_goes : (w : Watch) → is_valid w.tables ≡ true → w.tables.latest ≤ w.moment → w.moment ≤ MOMENT_LIMIT → GoesWell (at_latest w.moment w.tables) (undone w)
+undone_goes : (w : Watch) → is_valid w.tables ≡ true → w.tables.latest ≤ w.moment → w.moment ≤ MOMENT_LIMIT → GoesWell true (at_latest w.moment w.tables) (undone w)
 undone_goes w v le top =
     let t = w.tables in
     let u = at_latest w.moment t in
@@ -276,13 +300,19 @@ undone_goes w v le top =
     let here = are_in t.messages d in
     let slots = all_slots t w v t.messages u (later_is_valid t w.moment le v top) refl (alike_later t w.moment) here here d in
     let cs = flat_map (due_slots w) t.messages in
-    goes_on u cs (flat_map (due_purge w) t.messages) slots.goes
+    goes_on true u cs (flat_map (due_purge w) t.messages) slots.goes
     (all_purged w t.messages (after_all u cs) slots.goes.valid
-    (λ i e lt. let m = get_or t.messages i e in let y = slots.alike.rows m.id m (here i e lt) in ap is_some y.is_row) d)
+    (λ i e lt spent.
+    let m = get_or t.messages i e in
+    slots.goes.rests m.id (any_flat (takes_off m.id) (due_slots w) (slots_take_none m.id w) t.messages)
+    (finished_of u m.id m (here i e lt) (handled_finished m (valid_closed t m.id m v (here i e lt)) (spent_handled w m spent)))) d)
+
+pub due_goes : (t : Tables) (sessions : List Session) (db : DbId) (sent : Option SlotRef) (moment : ℕ) → is_valid t ≡ true → t.latest ≤ moment → moment ≤ MOMENT_LIMIT → GoesWell true (at_latest moment t) (due t sessions db sent moment)
+unfolding due
+due_goes t sessions db sent moment v le top =
+    let w : Watch = record { tables = t; sessions = sessions; db = db; sent = sent; moment = moment } in
+    goes_settled true (at_latest moment t) (undone w) (undone_goes w v le top)
 
 pub due_fits : (t : Tables) (sessions : List Session) (db : DbId) (sent : Option SlotRef) (moment : ℕ) → is_valid t ≡ true → t.latest ≤ moment → moment ≤ MOMENT_LIMIT
     → fits t (record { moment = moment; changes = due t sessions db sent moment }) ≡ true
-unfolding due
-due_fits t sessions db sent moment v le top =
-    let w : Watch = record { tables = t; sessions = sessions; db = db; sent = sent; moment = moment } in
-    settled_fits t moment (undone w) le (undone_goes w v le top)
+due_fits t sessions db sent moment v le top = fits_if_goes true t moment (due t sessions db sent moment) le (due_goes t sessions db sent moment v le top)

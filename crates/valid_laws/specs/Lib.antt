@@ -6,4 +6,5 @@ pub mod Openness
 pub mod PendingLaws
 pub mod RollbackLaws
 pub mod SubscriberLaws
+pub mod Touching
 pub mod ValidLaws

@@ -70,6 +70,12 @@ abbrev pub depth_of : ℤ → ℕ
 depth_of (pos n) = 0
 depth_of (negsuc n) = n + 1
 
+-- Room for messages that are still to be put in, where held says how many of them have ids below a number: for each a lane below each
+-- queue's lowest and a group, now and when further ids have been passed.
+pub record HasRoom (t : Tables) (held : ℕ → ℕ) : Type 0 where
+  pub lanes : (next : ℕ) → t.next ≤ next → (name : List ℕ) (queue : QueueRow) → find_queue t name ≡ Some queue → held next + depth_of queue.lowest ≤ next
+  pub groups : (next : ℕ) → t.next ≤ next → held next + t.transaction ≤ next
+
 -- What is pending may be committed at that moment. Of ids that the tables have passed, those that no commit has used leave room: a
 -- lane for each of them below each queue's lowest, and a group where there is one of them.
 pub record MayCommit (t : Tables) (moment : ℕ) (pending : List Pending) : Type 0 where

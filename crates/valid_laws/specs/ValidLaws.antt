@@ -10,6 +10,7 @@ use Rattle.queue_rows.specs.Session.{Session}
 use Rattle.queue_rows.specs.World.{committed_tables}
 use Rattle.queue_rows.specs.Due.{due}
 use Rattle.queue_rows.specs.Valid.{is_valid, has_right_retries, has_allowed_retries, has_begun, is_right_slot_zero, has_right_cells, has_right_place, has_right_props, has_right_slots, is_same_seen, takes_subscribers, is_right_rule, is_valid_queue, is_valid_schedule}
+use Rattle.queue_rows.specs.Catalog.{is_table_used}
 use Rattle.queue_rows.specs.Recipients.{subscribers_of}
 use Rattle.queue_rows.specs.Within.{if_some}
 use Rattle.queue_rows.specs.Fits.{fits, is_unmoved_at, names_what_is_there}
@@ -91,9 +92,9 @@ pub record Sees (t : Tables) (row : SeenRow) : Type 0 where
   pub behind : list_any (λ s. is_same_seen s row) t.seen ≡ false
   pub copy : row.copy < t.next
 
--- The message that is put in is new, was never moved, and is right for its queue and table (but for its slots, which are right
--- as those of a valid message are). Its id and group may be those that come next, and leave the numbers right; and, where the
--- table is not grouped, its lane is not below the negated next id.
+-- The message that is put in is new and was never moved, and it is right for its queue and its table; its slots are as those of a
+-- valid message are. Its id may be the next one or one behind it, and so may its group, where the next group stays at most the next
+-- id. Where the table is not grouped, its lane is not below the negated next id.
 pub record PutsRight (t : Tables) (row : MsgRow) : Type 0 where
   pub queue : QueueRow
   pub table : TableRow
@@ -133,7 +134,14 @@ pub record QueueGoes (t : Tables) (name : List ℕ) : Type 0 where
   pub found : find_queue t name ≡ Some queue
   pub further : bytes_eq name (exception_name queue.table) ≡ false
 
--- what a change needs so that it keeps tables valid; of the other changes nothing is said here
+-- the table is there, no queue but its default exception queue belongs to it, and no message stands in that one
+pub record TableGoes (t : Tables) (name : List ℕ) : Type 0 where
+  pub table : TableRow
+  pub found : find_table t name ≡ Some table
+  pub unused : is_table_used t name ≡ false
+
+-- What a change needs so that it keeps tables valid. A table that is put needs its exception queue with it (`NewTableFits`), and no
+-- commit sets the numbers: of these two nothing is said here.
 abbrev pub Keeps : Tables → Change → Type 0
 Keeps t (changes.Enqueued row) = PutsRight t row
 Keeps t (changes.Done id slot at) = ChangesOpen t id slot at
@@ -144,6 +152,7 @@ Keeps t (changes.Retried id slot retries until at) = Retries t id slot retries a
 Keeps t (changes.Moved id queue at) = MovesRight t id queue at
 Keeps t (changes.Purged id) = is_some (find_message t id) ≡ true
 Keeps t (changes.Seen row) = Sees t row
+Keeps t (changes.DropTable name) = TableGoes t name
 Keeps t (changes.PutQueue row) = QueuePutsRight t row
 Keeps t (changes.DropQueue name) = QueueGoes t name
 Keeps t (changes.PutSub row) = SubscribesRight t row

@@ -1,8 +1,14 @@
 // Laws over the definitions of `queue_rows`, each a function without a body.
 ghost use Rattle.valid_laws.specs.ArrivalLaws.{ArrivalFits, ConfirmationFits};
-ghost use Rattle.valid_laws.specs.CatalogueLaws.{NewTableFits, OneChangeFits};
+ghost use Rattle.valid_laws.specs.CatalogueLaws.{JudgedFits, NewTableFits, OneChangeFits};
 ghost use Rattle.valid_laws.specs.DueLaws.{DueFits};
-ghost use Rattle.valid_laws.specs.Examples.{ExampleCommits, ExampleIsValid, ExampleRollsBack};
+ghost use Rattle.valid_laws.specs.Examples.{
+  ExampleCommits,
+  ExampleDrops,
+  ExampleIsLeft,
+  ExampleIsValid,
+  ExampleRollsBack,
+};
 ghost use Rattle.valid_laws.specs.PendingLaws.{PendingFits, RemovalFits};
 ghost use Rattle.valid_laws.specs.RollbackLaws.{GivingUpKeepsValid, RollbackFits};
 ghost use Rattle.valid_laws.specs.SubscriberLaws.{SubscriberRemovalFits};
@@ -95,6 +101,11 @@ pub fn new_table_fits()
     ensures { NewTableFits }
 {}
 
+/// What an administrative statement changes, where it is not refused, fits with what it settles.
+pub fn judged_fits()
+    ensures { JudgedFits }
+{}
+
 /// The tables of the example are valid.
 pub fn example_is_valid()
     ensures { ExampleIsValid }
@@ -108,4 +119,10 @@ pub fn example_commits()
 /// In the example a rollback of a removal is one retry too many.
 pub fn example_rolls_back()
     ensures { ExampleRollsBack }
+{}
+
+/// In the example a table that is not used any more is dropped, and this fits.
+pub fn example_drops()
+    ensures changes { ExampleDrops }
+    ensures fit { ExampleIsLeft }
 {}
