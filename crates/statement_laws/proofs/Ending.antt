@@ -82,18 +82,18 @@ addition_later t moment later m le k = record {
   id_within = k.id_within;
 }
 
-right_later : (t : Tables) (moment later : ℕ) → moment ≤ later → (p : Pending) → IsPendingRight t moment p → IsPendingRight t later p
-right_later t moment later le (Add m) k = addition_later t moment later m le k
-right_later t moment later le (Remove id slot) h = h
+pub pending_right_later : (t : Tables) (moment later : ℕ) → moment ≤ later → (p : Pending) → IsPendingRight t moment p → IsPendingRight t later p
+pending_right_later t moment later le (Add m) k = addition_later t moment later m le k
+pending_right_later t moment later le (Remove id slot) h = h
 
-given_later : (next behind : ℕ) → next ≤ behind → (p : Pending) → IsGiven next p → IsGiven behind p
+pub given_later : (next behind : ℕ) → next ≤ behind → (p : Pending) → IsGiven next p → IsGiven behind p
 given_later next behind le (Add m) h = let x : m.id < next = h in omega (arith, x, le)
 given_later next behind le (Remove id slot) h = tt
 
 pub may_end_later : (t : Tables) (s : Session) (next moment behind later : ℕ) → next ≤ behind → moment ≤ later → MayEnd t next moment s → MayEnd t behind later s
 may_end_later t s next moment behind later le at k = record {
   commits = record {
-    right = All-weaker (IsPendingRight t moment) (IsPendingRight t later) (right_later t moment later at) s.pending k.commits.right;
+    right = All-weaker (IsPendingRight t moment) (IsPendingRight t later) (pending_right_later t moment later at) s.pending k.commits.right;
     apart = k.commits.apart;
     lanes = k.commits.lanes;
     groups = k.commits.groups;
@@ -220,7 +220,7 @@ other_if_apart (Add a) b h = tt
 other_if_apart (Remove id slot) (Add b) h = tt
 other_if_apart (Remove id slot) (Remove other behind) h = h
 
-may_roll_back : (t : Tables) (moment : ℕ) (pending : List Pending) → MayCommit t moment pending → MayRollBack t pending
+pub may_roll_back : (t : Tables) (moment : ℕ) (pending : List Pending) → MayCommit t moment pending → MayRollBack t pending
 may_roll_back t moment pending k = record {
   open_all = All-weaker (IsPendingRight t moment) (IsRemovalOpen t) (open_if_removed t moment) pending k.right;
   other = λ i j d lt le. other_if_apart (get_or pending i d) (get_or pending j d) (k.apart i j d lt le);

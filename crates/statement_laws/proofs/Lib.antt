@@ -3,6 +3,11 @@ pub mod Agents
 pub mod Among
 pub mod Cells
 pub mod Ending
+pub mod Framing
+pub mod Freeing
 pub mod Leaving
 pub mod Marking
+pub mod Naming
+pub mod Standing
+pub mod Stepping
 pub mod Taking

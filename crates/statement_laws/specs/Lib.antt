@@ -3,3 +3,4 @@ pub mod EnqueueLaws
 pub mod KeepingLaws
 pub mod SessionLaws
 pub mod Sessions
+pub mod StandingLaws

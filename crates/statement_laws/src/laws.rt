@@ -10,6 +10,19 @@ ghost use Rattle.statement_laws.specs.SessionLaws.{
   MayEndLater,
   RollbackFitsForSessions,
 };
+ghost use Rattle.statement_laws.specs.StandingLaws.{
+  ArrivalKeepsStanding,
+  CommitKeepsStanding,
+  ConfirmationKeepsStanding,
+  DequeueKeepsStanding,
+  DueKeepsStanding,
+  EmptyAreStanding,
+  EnqueueKeepsStanding,
+  ListenKeepsStanding,
+  RollbackKeepsStanding,
+  StandingLater,
+  StandingMayEnd,
+};
 
 /// An enqueue adds a message that is right for its queue and table, with the id that it was given.
 pub fn enqueue_adds_right()
@@ -54,4 +67,59 @@ pub fn commit_fits_for_sessions()
 /// What a rollback of such a session commits fits.
 pub fn rollback_fits_for_sessions()
     ensures { RollbackFitsForSessions }
+{}
+
+/// Each of the sessions that stand in tables may end its transaction.
+pub fn standing_may_end()
+    ensures { StandingMayEnd }
+{}
+
+/// Sessions that hold nothing stand in valid tables.
+pub fn empty_are_standing()
+    ensures { EmptyAreStanding }
+{}
+
+/// Sessions that stand in tables do so later, and when further ids were given.
+pub fn standing_later()
+    ensures { StandingLater }
+{}
+
+/// Behind the commit of one of them all sessions stand.
+pub fn commit_keeps_standing()
+    ensures { CommitKeepsStanding }
+{}
+
+/// Behind the rollback of one of them all sessions stand.
+pub fn rollback_keeps_standing()
+    ensures { RollbackKeepsStanding }
+{}
+
+/// Behind due work all sessions stand.
+pub fn due_keeps_standing()
+    ensures { DueKeepsStanding }
+{}
+
+/// Behind an arrival all sessions stand.
+pub fn arrival_keeps_standing()
+    ensures { ArrivalKeepsStanding }
+{}
+
+/// Behind the confirmation of a slot that none has marked all sessions stand.
+pub fn confirmation_keeps_standing()
+    ensures { ConfirmationKeepsStanding }
+{}
+
+/// Behind an enqueue of one of them all sessions stand.
+pub fn enqueue_keeps_standing()
+    ensures { EnqueueKeepsStanding }
+{}
+
+/// Behind a dequeue of one of them all sessions stand.
+pub fn dequeue_keeps_standing()
+    ensures { DequeueKeepsStanding }
+{}
+
+/// Behind a listen of one of them all sessions stand.
+pub fn listen_keeps_standing()
+    ensures { ListenKeepsStanding }
 {}
