@@ -1,5 +1,6 @@
 pub mod Agreeing
 pub mod Commits
+pub mod Committing
 pub mod Courses
 pub mod Fating
 pub mod Holding

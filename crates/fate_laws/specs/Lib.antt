@@ -1,3 +1,4 @@
+pub mod CommitLaws
 pub mod FateLaws
 pub mod Fates
 pub mod Lasting
