@@ -1,0 +1,9 @@
+//! Tests of the ordered indexes: rows that come and go, beside a plain list of them.
+#![tactic(auto)]
+
+#[cfg(test)]
+mod due;
+#[cfg(test)]
+mod numbers;
+#[cfg(test)]
+mod trees;
