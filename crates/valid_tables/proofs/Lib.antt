@@ -1,0 +1,4 @@
+pub mod Meeting
+pub mod Keys
+pub mod Lookups
+pub mod Recipients

@@ -1,0 +1,40 @@
+// Queues that are right.
+ghost use Rattle.std.specs.Prelude.{◌≡◌};
+ghost use Rattle.std.specs.List.{list_all};
+ghost use Rattle.queue_rows.specs.Valid.{has_right_lowest, is_valid_queue};
+
+use crate::catalog::Catalog;
+use crate::numbers::is_time;
+use aq_base::MAX_RETRIES_LIMIT;
+use exception_queues::is_exception;
+use queue_rows::QueueRow;
+
+// Its lowest lane is at most 0, and not below the negated next id.
+fn has_right_lowest(catalog: &Catalog<'_>, queue: &QueueRow) -> bool
+    ensures { result ≡ has_right_lowest catalog.now queue.now }
+{
+    queue.lowest <= 0 && -i128::from(catalog.tables().next) <= i128::from(queue.lowest)
+}
+
+// Its table is there; an exception queue takes no enqueues; its numbers are within the limits.
+fn is_valid_queue(catalog: &Catalog<'_>, queue: &QueueRow) -> bool
+    ensures { result ≡ is_valid_queue catalog.now queue.now }
+{
+    catalog.table(&queue.table).is_some()
+        && !(is_exception(queue.kind) && queue.enqueue)
+        && queue.max_retries <= MAX_RETRIES_LIMIT
+        && is_time(queue.retry_delay)
+        && is_time(queue.retention)
+        && has_right_lowest(catalog, queue)
+}
+
+/// Whether each queue is right.
+pub(crate) fn are_valid_queues(catalog: &Catalog<'_>) -> bool
+    ensures { result ≡ list_all (is_valid_queue catalog.now) catalog.now.queues }
+{
+    catalog
+        .tables()
+        .queues
+        .iter()
+        .all(|queue| is_valid_queue(catalog, queue))
+}
