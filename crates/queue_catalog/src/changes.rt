@@ -1,0 +1,25 @@
+// Short lists of changes.
+ghost use Rattle.std.specs.Prelude.{◌≡◌, ◌∷◌, [], IfOk};
+
+use payload_records::List;
+use queue_rows::Change;
+use std::alloc::{AllocError, Global};
+
+/// A list of one change.
+pub(crate) fn one(alloc: Global, change: Change) -> Result<List<Change>, AllocError>
+    ensures { IfOk result (λ changes. changes ≡ change ∷ []) }
+{
+    let mut changes = Vec::with_capacity(alloc, 1)?;
+    changes.push(change)?;
+    Ok(List::from_vec(changes))
+}
+
+/// A list of two changes.
+pub(crate) fn two(alloc: Global, first: Change, second: Change) -> Result<List<Change>, AllocError>
+    ensures { IfOk result (λ changes. changes ≡ first ∷ second ∷ []) }
+{
+    let mut changes = Vec::with_capacity(alloc, 2)?;
+    changes.push(first)?;
+    changes.push(second)?;
+    Ok(List::from_vec(changes))
+}

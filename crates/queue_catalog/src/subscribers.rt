@@ -1,0 +1,130 @@
+// Subscribers: how one is added, and how one is removed.
+ghost use Rattle.std.specs.Prelude.{◌≡◌, length, Ok, Some, IfOk, IfErr};
+ghost use Rattle.queue_rows.specs.Rows.{find_queue};
+ghost use Rattle.queue_rows.specs.Conditions.{optional_condition};
+ghost use Rattle.queue_rows.specs.Recipients.{subscribers_of};
+ghost use Rattle.queue_rows.specs.Catalog.{add_subscriber, put_sub, remove_sub, remove_subscriber};
+ghost use Rattle.queue_catalog.specs.Judging.{Refuses};
+
+use crate::changes::one;
+use crate::fault::CatalogFault;
+use crate::lookup::{find_sub, has_consumers, has_subscribers};
+use crate::removal::drop_slots_in;
+use aq_base::SUBSCRIBER_LIMIT;
+use exception_queues::{find_queue, find_table};
+use payload_records::{Copied, List, Name, RecordType, Text};
+use queue_rows::{Change, LimitName, Reply, SubRow, Tables};
+use rule_checks::{CheckFault, read_checked};
+use std::alloc::{AllocError, Global};
+
+fn subscriber_count(tables: &Tables, queue: &Name) -> usize
+    ensures { result ≡ length (subscribers_of tables.now queue.now) }
+{
+    tables.subs.iter().filter(|sub| sub.queue == *queue).count()
+}
+
+// The last test of a new subscriber is of its rule.
+fn put_sub(
+    alloc: Global,
+    queue: &Name,
+    name: &Name,
+    address: &Option<Name>,
+    fields: &RecordType,
+    rule: &Option<Text>,
+) -> Result<List<Change>, CatalogFault>
+    ensures changes { IfOk result (λ changes.
+        put_sub queue.now name.now address.now (optional_condition fields.now rule.now) ≡ Ok changes) }
+    ensures refused { IfErr result (Refuses
+        (put_sub queue.now name.now address.now (optional_condition fields.now rule.now))) }
+{
+    let rule = match read_checked(alloc, rule.as_ref(), fields) {
+        Ok(rule) => rule,
+        Err(CheckFault::Refused(fault)) => {
+            return Err(CatalogFault::Refused(Reply::BadCondition(fault)));
+        }
+        Err(CheckFault::Memory) => return Err(CatalogFault::Memory),
+    };
+    let row = SubRow {
+        queue: queue.copied()?,
+        name: name.copied()?,
+        address: Copied::copied(address)?,
+        rule,
+    };
+    Ok(one(alloc, Change::PutSub(row))?)
+}
+
+/// A subscriber of a normal queue of a table for many consumers, with a rule that fits the table.
+pub(crate) fn add_subscriber(
+    alloc: Global,
+    tables: &Tables,
+    queue: &Name,
+    name: &Name,
+    address: &Option<Name>,
+    rule: &Option<Text>,
+) -> Result<List<Change>, CatalogFault>
+    ensures changes { IfOk result (λ changes.
+        add_subscriber tables.now (find_queue tables.now queue.now) name.now address.now rule.now ≡ Ok changes) }
+    ensures refused { IfErr result (Refuses
+        (add_subscriber tables.now (find_queue tables.now queue.now) name.now address.now rule.now)) }
+{
+    let Some(row) = find_queue(tables, queue) else {
+        return Err(CatalogFault::Refused(Reply::NoQueue));
+    };
+    let Some(table) = find_table(tables, &row.table) else {
+        return Err(CatalogFault::Refused(Reply::WrongKind));
+    };
+    if !has_consumers(row, table) {
+        return Err(CatalogFault::Refused(Reply::WrongKind));
+    }
+    if find_sub(tables, &row.name, name).is_some() {
+        return Err(CatalogFault::Refused(Reply::Exists));
+    }
+    if subscriber_count(tables, &row.name) >= SUBSCRIBER_LIMIT {
+        return Err(CatalogFault::Refused(Reply::Limit(LimitName::Subscribers)));
+    }
+    put_sub(alloc, &row.name, name, address, &table.fields, rule)
+}
+
+fn remove_sub(
+    alloc: Global,
+    tables: &Tables,
+    sub: &SubRow,
+    moment: u64,
+) -> Result<List<Change>, AllocError>
+    ensures { IfOk result (λ changes. remove_sub tables.now (Some sub.now) moment ≡ Ok changes) }
+{
+    let mut changes = one(
+        alloc,
+        Change::DropSub {
+            queue: sub.queue.copied()?,
+            name: sub.name.copied()?,
+        },
+    )?;
+    drop_slots_in(&mut changes, tables, sub, moment)?;
+    Ok(changes)
+}
+
+/// A subscriber goes, and with it what it could still take.
+pub(crate) fn remove_subscriber(
+    alloc: Global,
+    tables: &Tables,
+    queue: &Name,
+    name: &Name,
+    moment: u64,
+) -> Result<List<Change>, CatalogFault>
+    ensures changes { IfOk result (λ changes.
+        remove_subscriber tables.now (find_queue tables.now queue.now) name.now moment ≡ Ok changes) }
+    ensures refused { IfErr result (Refuses
+        (remove_subscriber tables.now (find_queue tables.now queue.now) name.now moment)) }
+{
+    let Some(row) = find_queue(tables, queue) else {
+        return Err(CatalogFault::Refused(Reply::NoQueue));
+    };
+    if !has_subscribers(tables, row) {
+        return Err(CatalogFault::Refused(Reply::WrongKind));
+    }
+    let Some(sub) = find_sub(tables, &row.name, name) else {
+        return Err(CatalogFault::Refused(Reply::NoSubscriber));
+    };
+    Ok(remove_sub(alloc, tables, sub, moment)?)
+}
