@@ -1,8 +1,10 @@
 pub mod Adding
+pub mod Administering
 pub mod Agents
 pub mod Among
 pub mod Cells
 pub mod Ending
+pub mod Example
 pub mod Framing
 pub mod Freeing
 pub mod Leaving

@@ -183,17 +183,17 @@ none_removed s id slot a h = false_from_ne_true (list_any (is_removal_of id slot
 
 -- ---- behind a commit
 
-abbrev IsCommit : Tables → Session → ℕ → Reply → List Change → Session → Type 0
+abbrev pub IsCommit : Tables → Session → ℕ → Reply → List Change → Session → Type 0
 IsCommit t s moment reply cs after = (cs ≡ commit_of t moment s.pending) × (after.pending ≡ []) × (after.marks ≡ [])
 
-is_commit : (t : Tables) (s : Session) (moment : ℕ) → Says (IsCommit t s moment) (commit t s moment)
+pub is_commit : (t : Tables) (s : Session) (moment : ℕ) → Says (IsCommit t s moment) (commit t s moment)
 unfolding commit
 is_commit t s moment = (refl, refl, refl)
 
-abbrev IsRollback : Tables → Session → ℕ → Reply → List Change → Session → Type 0
+abbrev pub IsRollback : Tables → Session → ℕ → Reply → List Change → Session → Type 0
 IsRollback t s moment reply cs after = (cs ≡ rollback_of t moment s.pending) × (after.pending ≡ []) × (after.marks ≡ [])
 
-is_rollback : (t : Tables) (s : Session) (moment : ℕ) → Says (IsRollback t s moment) (rollback t s moment)
+pub is_rollback : (t : Tables) (s : Session) (moment : ℕ) → Says (IsRollback t s moment) (rollback t s moment)
 unfolding rollback
 is_rollback t s moment = (refl, refl, refl)
 

@@ -327,7 +327,7 @@ in_so modes.RemoveNodata visibilities.Immediate t s moment cs after h = once h.i
 in_so modes.Browse visibility t s moment cs after h = nothing_so t s moment cs after h
 in_so modes.Locked visibility t s moment cs after h = nothing_so t s moment cs after h
 
-takes_so : (reply : Reply) (ask : Dequeue) (t : Tables) (s : Session) (moment : ℕ) (cs : List Change) (after : Session) → Takes reply ask t s moment cs after → TakesSo t s moment cs after
+pub takes_so : (reply : Reply) (ask : Dequeue) (t : Tables) (s : Session) (moment : ℕ) (cs : List Change) (after : Session) → Takes reply ask t s moment cs after → TakesSo t s moment cs after
 takes_so (replies.Message id priority retries corr shown props) ask t s moment cs after h = in_so ask.mode ask.visibility t s moment cs after h
 takes_so _ ask t s moment cs after h = nothing_so t s moment cs after h
 
@@ -418,14 +418,14 @@ dequeue_keeps_standing t db next moment i s sessions ask reply cs after behind v
 
 -- ---- behind a listen
 
-abbrev HoldsSame : Session → Reply → List Change → Session → Type 0
+abbrev pub HoldsSame : Session → Reply → List Change → Session → Type 0
 HoldsSame s reply cs after = (cs ≡ []) × (after.pending ≡ s.pending) × (after.marks ≡ s.marks)
 
 listened_same : (s : Session) (wait moment : ℕ) (o : Option Reply) → Says (HoldsSame s) (listened s wait moment o)
 listened_same s wait moment (Some reply) = (refl, refl, refl)
 listened_same s wait moment None = says_if (HoldsSame s) (still_waits s wait moment) (parks (first_look s moment)) (refused s replies.NoMessage) (λ _. tt) (λ _. (refl, refl, refl))
 
-listen_same : (t : Tables) (sessions : List Session) (i : ℕ) (s : Session) (ask : Listen) (moment : ℕ) → Says (HoldsSame s) (listen t sessions i s ask moment)
+pub listen_same : (t : Tables) (sessions : List Session) (i : ℕ) (s : Session) (ask : Listen) (moment : ℕ) → Says (HoldsSame s) (listen t sessions i s ask moment)
 unfolding listen
 listen_same t sessions i s ask moment = listened_same s ask.wait moment (option_or (agents_fault t ask.agents) (served_from 1 (is_served t sessions i s) ask.agents))
 

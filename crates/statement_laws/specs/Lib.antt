@@ -1,5 +1,6 @@
 pub mod DequeueLaws
 pub mod EnqueueLaws
+pub mod Examples
 pub mod KeepingLaws
 pub mod SessionLaws
 pub mod Sessions

@@ -5,6 +5,7 @@ use Rattle.aq_base.specs.declared.DbId.{DbId}
 use Rattle.aq_base.specs.declared.limits.TheConstants.{MOMENT_LIMIT}
 use Rattle.queue_rows.specs.Session.{Session, is_same_db, marks_slot}
 use Rattle.queue_rows.specs.Meaning.{answers}
+use Rattle.queue_rows.specs.Administration.{administer}
 use Rattle.queue_rows.specs.Enqueueing.{enqueue}
 use Rattle.queue_rows.specs.Dequeueing.{dequeue}
 use Rattle.queue_rows.specs.Listening.{listen}
@@ -20,6 +21,7 @@ use Rattle.queue_rows.specs.declared.rows.ScheduleRow.{ScheduleRow}
 use Rattle.queue_rows.specs.declared.change.Change.{Change}
 use Rattle.queue_rows.specs.declared.history.SlotRef.{SlotRef}
 use Rattle.queue_rows.specs.declared.reply.Reply.{Reply}
+use Rattle.queue_rows.specs.declared.statement.Admin.{Admin}
 use Rattle.queue_rows.specs.declared.statement.Enqueue.{Enqueue}
 use Rattle.queue_rows.specs.declared.statement.Dequeue.{Dequeue}
 use Rattle.queue_rows.specs.declared.statement.Listen.{Listen}
@@ -141,4 +143,13 @@ abbrev pub ListenKeepsStanding : Type 0
 ListenKeepsStanding = (t : Tables) (db : DbId) (next moment i : ℕ) (s : Session) (sessions : List Session) (ask : Listen) (reply : Reply) (cs : List Change) (after behind : Session)
     → AreStanding t db next moment sessions → slice_get sessions i ≡ Some s → is_same_db s.at db ≡ true
     → listen t sessions i s ask moment ≡ answers reply cs after → HoldsAs behind s after
+    → AreStanding (committed_tables t cs moment) db next moment (slice_set sessions i behind)
+
+-- ---- behind administrative statements
+
+-- behind an administrative statement, which is refused where work on what it takes away is outstanding
+abbrev pub AdministrationKeepsStanding : Type 0
+AdministrationKeepsStanding = (t : Tables) (db : DbId) (next moment i : ℕ) (s : Session) (sessions : List Session) (sent : Option SlotRef) (ask : Admin) (reply : Reply) (cs : List Change) (after behind : Session)
+    → is_valid t ≡ true → t.latest ≤ moment → moment ≤ MOMENT_LIMIT → is_within (statements.Admin ask) ≡ true → AreStanding t db next moment sessions
+    → slice_get sessions i ≡ Some s → is_same_db s.at db ≡ true → administer t sessions sent s ask moment ≡ answers reply cs after → HoldsAs behind s after
     → AreStanding (committed_tables t cs moment) db next moment (slice_set sessions i behind)

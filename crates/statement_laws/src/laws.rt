@@ -1,6 +1,7 @@
 // Laws over the definitions of `queue_rows`, each a function without a body.
 ghost use Rattle.statement_laws.specs.DequeueLaws.{DequeueRemovesOpen};
 ghost use Rattle.statement_laws.specs.EnqueueLaws.{EnqueueAddsRight};
+ghost use Rattle.statement_laws.specs.Examples.{ExampleStands};
 ghost use Rattle.statement_laws.specs.KeepingLaws.{StatementsKeepPending};
 ghost use Rattle.statement_laws.specs.SessionLaws.{
   CommitFitsForSessions,
@@ -11,6 +12,7 @@ ghost use Rattle.statement_laws.specs.SessionLaws.{
   RollbackFitsForSessions,
 };
 ghost use Rattle.statement_laws.specs.StandingLaws.{
+  AdministrationKeepsStanding,
   ArrivalKeepsStanding,
   CommitKeepsStanding,
   ConfirmationKeepsStanding,
@@ -122,4 +124,14 @@ pub fn dequeue_keeps_standing()
 /// Behind a listen of one of them all sessions stand.
 pub fn listen_keeps_standing()
     ensures { ListenKeepsStanding }
+{}
+
+/// Behind an administrative statement of one of them all sessions stand.
+pub fn administration_keeps_standing()
+    ensures { AdministrationKeepsStanding }
+{}
+
+/// In the example the two sessions stand.
+pub fn example_stands()
+    ensures { ExampleStands }
 {}

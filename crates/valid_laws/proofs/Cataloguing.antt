@@ -77,7 +77,7 @@ module _ (t : Tables) (row : QueueRow) (k : QueuePutsRight t row) where
     table_is = refl;
   }
 
-  found : (name : List ℕ) (q : QueueRow) → find_queue t name ≡ Some q → IsFoundAs t (with_catalogue t t.tables (put_by is_same_queue row t.queues)) name q
+  pub found : (name : List ℕ) (q : QueueRow) → find_queue t name ≡ Some q → IsFoundAs t (with_catalogue t t.tables (put_by is_same_queue row t.queues)) name q
   found name q f = found_by name q (bytes_eq row.name name) refl f
 
   pub queue_put : is_valid t ≡ true → is_valid (after_change t (changes.PutQueue row)) ≡ true
@@ -101,7 +101,7 @@ module _ (t : Tables) (row : QueueRow) (k : QueuePutsRight t row) where
 -- ---- a queue is dropped
 
 module _ (t : Tables) (name : List ℕ) (v : is_valid t ≡ true) (k : QueueGoes t name) where
-  kept_queue : (other : List ℕ) (q : QueueRow) → bytes_eq other name ≡ false → find_queue t other ≡ Some q → IsFoundAs t (drop_queue t name) other q
+  pub kept_queue : (other : List ℕ) (q : QueueRow) → bytes_eq other name ≡ false → find_queue t other ≡ Some q → IsFoundAs t (drop_queue t name) other q
   kept_queue other q d f = record {
     row = q;
     row_is = find_other_removed (λ x. bytes_eq x.name name) (λ x. bytes_eq x.name other) (λ y e. ap (λ n. bytes_eq n other) (same_name y.name name e) ∙ turned other name d) t.queues ∙ f;

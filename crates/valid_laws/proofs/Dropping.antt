@@ -52,7 +52,7 @@ normal_by : (t : Tables) (name : List ℕ) (o : Option QueueRow) → find_queue 
 normal_by t name None e h = absurd (false≢true h)
 normal_by t name (Some q) e h = record { queue = q; queue_is = e; normal = subscribers_normal q (find_table t q.table) h }
 
-normal_of : (t : Tables) (sub : SubRow) → is_valid t ≡ true → find_sub t sub.queue sub.name ≡ Some sub → IsNormalThere t sub.queue
+pub normal_of : (t : Tables) (sub : SubRow) → is_valid t ≡ true → find_sub t sub.queue sub.name ≡ Some sub → IsNormalThere t sub.queue
 normal_of t sub v e =
     let h : is_valid_sub t sub ≡ true = all_found (is_valid_sub t) (is_sub sub.queue sub.name) t.subs sub (parts_of t v).subs e in
     let p = and_parts (takes_subscribers t sub.queue && nat_le (length (subscribers_of t sub.queue)) SUBSCRIBER_LIMIT) (if_some (is_right_rule (table_of t sub.queue)) sub.rule) h in
@@ -62,7 +62,7 @@ normal_of t sub v e =
 -- ---- the slots of an unmoved message, by their numbers
 
 -- from that number on they are those of the list
-abbrev AreFrom : MsgRow → ℕ → List SlotRow → Type 0
+abbrev pub AreFrom : MsgRow → ℕ → List SlotRow → Type 0
 AreFrom m low xs = (j : ℕ) → slot_of m (low + j) ≡ slice_get xs j
 
 past_end : (xs : List SlotRow) (j : ℕ) → length xs ≤ j → slice_get xs j ≡ None
@@ -82,13 +82,13 @@ from_one_by m j false e u =
     let out : length m.slots ≤ j = (let x = leb-false (1 + j) (length m.slots) e in omega (arith, x)) in
     slot_of-hasnt m (1 + j) hasnt ∙ sym (past_end m.slots j out)
 
-from_one : (m : MsgRow) → m.moved ≡ false → AreFrom m 1 m.slots
+pub from_one : (m : MsgRow) → m.moved ≡ false → AreFrom m 1 m.slots
 from_one m u j = from_one_by m j (nat_le (1 + j) (length m.slots)) refl u
 
-from_next : (m : MsgRow) (low : ℕ) (x : SlotRow) (xs : List SlotRow) → AreFrom m low (x ∷ xs) → AreFrom m (low + 1) xs
+pub from_next : (m : MsgRow) (low : ℕ) (x : SlotRow) (xs : List SlotRow) → AreFrom m low (x ∷ xs) → AreFrom m (low + 1) xs
 from_next m low x xs h j = let e : low + 1 + j ≡ low + suc j = omega arith in ap (slot_of m) e ∙ h (suc j)
 
-from_first : (m : MsgRow) (low : ℕ) (x : SlotRow) (xs : List SlotRow) → AreFrom m low (x ∷ xs) → slot_of m low ≡ Some x
+pub from_first : (m : MsgRow) (low : ℕ) (x : SlotRow) (xs : List SlotRow) → AreFrom m low (x ∷ xs) → slot_of m low ≡ Some x
 from_first m low x xs h = let e : low ≡ low + 0 = omega arith in ap (slot_of m) e ∙ h 0
 
 -- ---- one message

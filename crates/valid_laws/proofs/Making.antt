@@ -33,7 +33,7 @@ use Rattle.valid_laws.proofs.Cataloguing.{same_name, own_name, alike_queues, ali
 
 -- ---- one change
 
-one_settles : (t : Tables) (c : Change) (o : Option ℕ) → named_by c ≡ o → o ≡ None → settled t (c ∷ []) ≡ c ∷ []
+pub one_settles : (t : Tables) (c : Change) (o : Option ℕ) → named_by c ≡ o → o ≡ None → settled t (c ∷ []) ≡ c ∷ []
 one_settles t c None e h = ap (λ n. c ∷ [] ++ flat_map (settling t (c ∷ [])) (with_name [] n)) e
 one_settles t c (Some id) e h = absurd (none-some id (sym h))
 
@@ -45,7 +45,7 @@ one_change_fits t moment c v le top k e =
 -- ---- a new table
 
 module _ (t : Tables) (row : TableRow) (v : is_valid t ≡ true) (k : TableIsNew t row) where
-  abbrev made : Tables
+  abbrev pub made : Tables
   made = with_catalogue t (put_by is_same_table row t.tables) (put_by is_same_queue (exception_row row.name) t.queues)
 
   table_by : (name : List ℕ) (table : TableRow) (b : Bool) → bytes_eq row.name name ≡ b → find_table t name ≡ Some table → find_table made name ≡ Some table
@@ -76,7 +76,7 @@ module _ (t : Tables) (row : TableRow) (v : is_valid t ≡ true) (k : TableIsNew
     table_is = same_table q (find_table t q.table) refl (has_table q (queue_valid name q f));
   }
 
-  queue_found : (name : List ℕ) (q : QueueRow) → find_queue t name ≡ Some q → IsFoundAs t made name q
+  pub queue_found : (name : List ℕ) (q : QueueRow) → find_queue t name ≡ Some q → IsFoundAs t made name q
   queue_found name q f = queue_by name q (bytes_eq (exception_name row.name) name) refl f
 
   queue_stays : (q : QueueRow) → is_valid_queue t q ≡ true → is_valid_queue made q ≡ true

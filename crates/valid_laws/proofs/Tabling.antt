@@ -110,7 +110,7 @@ module _ (t : Tables) (name : List ℕ) (v : is_valid t ≡ true) (k : TableGoes
       not_of_table (bytes_eq q.table name) (bytes_eq q.name (exception_name name)) (all_found (λ x. not (is_further_queue name x)) (λ x. bytes_eq x.name other) t.queues q further_none f)
       (ap (λ n. bytes_eq n (exception_name name)) named ∙ d)
 
-  queue_kept : (other : List ℕ) (q : QueueRow) → bytes_eq other (exception_name name) ≡ false → find_queue t other ≡ Some q → IsFoundAs t left other q
+  pub queue_kept : (other : List ℕ) (q : QueueRow) → bytes_eq other (exception_name name) ≡ false → find_queue t other ≡ Some q → IsFoundAs t left other q
   queue_kept other q d f = record {
     row = q;
     row_is = find_other_removed (λ x. bytes_eq x.name (exception_name name)) (λ x. bytes_eq x.name other) (λ y e. ap (λ n. bytes_eq n other) (same_name y.name (exception_name name) e) ∙ turned other (exception_name name) d) t.queues ∙ f;
