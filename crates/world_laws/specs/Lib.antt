@@ -1,0 +1,2 @@
+pub mod ValidWorld
+pub mod WorldLaws
