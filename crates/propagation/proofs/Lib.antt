@@ -1,0 +1,3 @@
+pub mod Arrivals
+pub mod Delays
+pub mod Least

@@ -1,0 +1,8 @@
+use Rattle.std.proofs.Common.{◌≡◌}
+use Rattle.std.specs.Prelude.{filter_map, slice_get}
+use Rattle.queue_rows.specs.Propagating.{pick_by}
+use Rattle.propagation.proofs.picking.pick.Given as goal
+
+abbrev pub invariant-loop-schedule : goal.invariant-loop-schedule
+invariant-loop-schedule l =
+    slice_get (filter_map (pick_by l.tables l.moment) l.schedule-iterator) 0 ≡ slice_get (filter_map (pick_by l.tables l.moment) l.tables.schedules) 0

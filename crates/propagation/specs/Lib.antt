@@ -1,0 +1,4 @@
+pub mod Copies
+pub mod Few
+pub mod Outcomes
+pub mod Sent

@@ -1,0 +1,95 @@
+// Whether what is sent is taken in at its destination, or why it is not.
+ghost use Rattle.std.specs.Prelude.{◌≡◌, ◌<◌, ◌^◌, Some, None, IfOk, IfErr, zip};
+ghost use Rattle.std.specs.List.{list_all};
+ghost use Rattle.queue_rows.specs.Rows.{table_of};
+ghost use Rattle.queue_rows.specs.Propagating.{is_same_field, is_same_type, cause_at_table, cause_of, is_pair, has_seen};
+ghost use Rattle.propagation.specs.Sent.{parcel_of};
+
+use crate::sent::Sent;
+use aq_base::NEXT_LIMIT;
+use exception_queues::{find_queue, find_table, is_exception};
+use payload_records::{Field, List, RecordType};
+use queue_rows::{Cause, SeenRow, SlotRef, TableRow, Tables};
+
+fn is_pair(at: &SlotRef, row: &SeenRow) -> bool
+    ensures { result ≡ is_pair at.now.id at.now.slot row.now }
+{
+    row.id == at.id && row.slot == u64::from(at.slot)
+}
+
+/// Whether the pair of the slot stands in the seen list. It goes over the list.
+pub(crate) fn has_seen(there: &Tables, at: &SlotRef) -> bool
+    ensures { result ≡ has_seen there.now at.now }
+{
+    there.seen.iter().any(|row| is_pair(at, row))
+}
+
+fn is_same_field(left: &Field, right: &Field) -> bool
+    ensures { result ≡ is_same_field left.now right.now }
+{
+    left.name == right.name && left.kind == right.kind
+}
+
+fn are_same_fields(left: &List<Field>, right: &List<Field>) -> bool
+    ensures { result ≡ list_all (λ pair. is_same_field pair.0 pair.1) (zip left.now right.now) }
+{
+    let mut others = right.iter();
+    for field in left {
+        let Some(other) = others.next() else {
+            return true;
+        };
+        if !is_same_field(field, other) {
+            return false;
+        }
+    }
+    true
+}
+
+fn is_same_type(left: &RecordType, right: &RecordType) -> bool
+    ensures { result ≡ is_same_type left.now right.now }
+{
+    let (left, right) = (left.fields(), right.fields());
+    left.len() == right.len() && are_same_fields(left, right)
+}
+
+fn cause_at_table(table: &TableRow, sent: Sent<'_>, next: u64) -> Option<Cause>
+    ensures { result ≡ cause_at_table (parcel_of sent.entry) next (Some table.now) }
+{
+    if !is_same_type(&table.fields, &sent.table.fields) {
+        return Some(Cause::Payload);
+    }
+    if next >= NEXT_LIMIT {
+        return Some(Cause::Limit);
+    }
+    None
+}
+
+/// The table in which the copy is to stand, where `next` is its id, or the first cause for which it is not taken in.
+#[tactic(auto, unfolding(queue_rows::specs::Propagating::cause_of))]
+pub(crate) fn destination<'a>(
+    there: &'a Tables,
+    sent: Sent<'_>,
+    next: u64,
+) -> Result<&'a TableRow, Cause>
+    ensures table { IfOk result (λ table. table_of there.now (parcel_of sent.entry).to ≡ Some table.now) }
+    ensures taken { IfOk result (λ table. cause_of there.now (parcel_of sent.entry) next ≡ None) }
+    ensures limit { IfOk result (λ table. next < 2 ^ 61) }
+    ensures failed { IfErr result (λ cause. cause_of there.now (parcel_of sent.entry) next ≡ Some cause) }
+{
+    let Some(queue) = find_queue(there, &sent.schedule.to) else {
+        return Err(Cause::NoQueue);
+    };
+    if is_exception(queue.kind) {
+        return Err(Cause::WrongKind);
+    }
+    if !queue.enqueue {
+        return Err(Cause::EnqueueOff);
+    }
+    let Some(table) = find_table(there, &queue.table) else {
+        return Err(Cause::NoQueue);
+    };
+    match cause_at_table(table, sent, next) {
+        Some(cause) => Err(cause),
+        None => Ok(table),
+    }
+}
