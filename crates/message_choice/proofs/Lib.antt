@@ -1,0 +1,4 @@
+pub mod Asked
+pub mod Holding
+pub mod Navigating
+pub mod Walking

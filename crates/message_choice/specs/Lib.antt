@@ -1,0 +1,4 @@
+pub mod Asking
+pub mod Indexed
+pub mod Searched
+pub mod Wanted

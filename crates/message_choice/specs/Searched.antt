@@ -1,0 +1,46 @@
+-- What a search in the rows of a queue and consumer finds, and how many it looks at.
+use Rattle.std.specs.Prelude.{◌+◌, ℕ, List, Option, filter, option_map}
+use Rattle.queue_rows.specs.Dequeueing.{Look}
+use Rattle.queue_rows.specs.declared.rows.MsgRow.{MsgRow}
+use Rattle.sort_index.specs.declared.group.Ready.{Ready}
+use Rattle.sort_index.specs.declared.group.Group.{Group}
+use Rattle.choice_laws.specs.Choosing.{first_passing, looks, may_give}
+use Rattle.choice_laws.specs.Choosing as rows
+use Rattle.choice_laws.specs.Entries.{Entry, Row, AreRising, rows_for}
+use Rattle.choice_laws.specs.GoingLaws.{from_row}
+use Rattle.choice_laws.specs.LookLaws.{passed_over}
+use Rattle.message_choice.specs.Asking.{AreSoundFor}
+use Rattle.message_choice.specs.Indexed.{IndexesReady, stamped}
+use Rattle.message_choice.specs.Wanted.{passes}
+use Rattle.message_choice.specs.declared.asking.Asking.{Asking}
+use Rattle.message_choice.specs.declared.asking.Filter.{Filter}
+
+-- a search can be made: stamps rise, the index has the rows of these messages, and they are sound
+pub record CanSearch (a : Asking) (entries : List Entry) (groups : List Group) : Type 0 where
+  pub rising : AreRising entries
+  pub indexed : IndexesReady entries groups
+  pub sound : AreSoundFor a entries
+
+abbrev pub rows_in : Look → List Entry → List Row
+rows_in l entries = rows_for l.queue.name l.ask.consumer entries
+
+-- the rows from one on, of those of the look
+abbrev pub rows_from : Look → List Entry → Option Ready → List Row
+rows_from l entries row = from_row (option_map stamped row) (rows_in l entries)
+
+-- the message of the first of them that passes
+abbrev pub first_from : Look → Filter → List Entry → Option Ready → Option MsgRow
+first_from l f entries row = first_passing entries (passes l f) (rows_from l entries row)
+
+-- how many of them are looked at
+abbrev pub looks_from : Look → Filter → List Entry → Option Ready → ℕ
+looks_from l f entries row = looks (rows.passes entries (passes l f)) (rows_from l entries row)
+
+-- at most so many rows are looked at in one search: one more than there are messages of the queue with a ready slot for the consumer
+-- that do not pass
+abbrev pub most_looks : Look → Filter → List MsgRow → ℕ
+most_looks l f messages = passed_over l.queue.name l.ask.consumer (passes l f) messages + 1
+
+-- the messages that the dequeue may give
+abbrev pub candidates : Look → List MsgRow → List MsgRow
+candidates l messages = filter (may_give l) messages

@@ -1,0 +1,12 @@
+//! Which message a dequeue chooses, found by the ordered rows of its queue and consumer.
+#![tactic(auto)]
+
+mod asking;
+mod choosing;
+mod search;
+mod stamped;
+mod test;
+
+pub use asking::{Choice, Pick};
+pub use choosing::choose;
+pub use stamped::StampedMessages;
