@@ -78,12 +78,3 @@ put_and_taken place id slot (x ∷ xs) free =
       | false ↦ ap (λ o. cond (not (is_eq o)) (row ∷ without_row place id (x ∷ xs)) (without_row place id (x ∷ xs))) (tied_itself ready_cmp_total row)
           ∙ none_taken place id (x ∷ xs) free
     ]
-
--- what is told of each row stands in the same order, where that order is one of what is told
-pub put_mapped : {T U : Type 0} (order : U → U → Ordering) (told : T → U) (x : T) (xs : List T)
-    → map told (put_in_order (λ a b. order (told a) (told b)) x xs) ≡ put_in_order order (told x) (map told xs)
-put_mapped order told x [] = refl
-put_mapped {T} {U} order told x (y ∷ ys) =
-    let P : Bool → Type 0 = λ b. map told (cond b (y ∷ put_in_order (λ a c. order (told a) (told c)) x ys) (x ∷ y ∷ ys))
-    ≡ cond b (told y ∷ put_in_order order (told x) (map told ys)) (told x ∷ told y ∷ map told ys) in
-    elim (is_lt (order (told y) (told x))) as P [ true ↦ ap (λ us. told y ∷ us) (put_mapped order told x ys) | false ↦ refl ]
