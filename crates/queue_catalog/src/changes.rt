@@ -18,8 +18,7 @@ pub(crate) fn one(alloc: Global, change: Change) -> Result<List<Change>, AllocEr
 pub(crate) fn two(alloc: Global, first: Change, second: Change) -> Result<List<Change>, AllocError>
     ensures { IfOk result (λ changes. changes ≡ first ∷ second ∷ []) }
 {
-    let mut changes = Vec::with_capacity(alloc, 2)?;
-    changes.push(first)?;
+    let mut changes = one(alloc, first)?;
     changes.push(second)?;
-    Ok(List::from_vec(changes))
+    Ok(changes)
 }
