@@ -1,11 +1,11 @@
 -- Behind a statement that is answered its database is right.
-use Rattle.std.proofs.Common.{◌≡◌, ◌≤◌, ◌+◌, ℕ, List, [], ◌∷◌, Bool, true, false, length, refl, sym, ap, ◌∙◌, subst, arith, Option, Some, Ok, Err, ◌==◌}
+use Rattle.std.proofs.Common.{◌≡◌, ◌≤◌, ◌<◌, ◌+◌, ◌⊎◌, inl, inr, ℕ, List, [], ◌∷◌, Bool, true, false, length, refl, sym, ap, ◌∙◌, subst, arith, Option, Some, Ok, Err, ◌==◌}
 use Rattle.std.specs.Prelude.{slice_get, slice_set, if◌then◌else◌}
 use Rattle.std.specs.List.{list_all}
 use Rattle.std.proofs.lemmas.Bool.{and_parts}
 use Rattle.aq_base.specs.declared.DbId.{DbId}
 use Rattle.aq_base.specs.declared.DbId.TheVariants.{Home, Away}
-use Rattle.aq_base.specs.declared.limits.TheConstants.{MOMENT_LIMIT}
+use Rattle.aq_base.specs.declared.limits.TheConstants.{MOMENT_LIMIT, NEXT_LIMIT}
 use Rattle.queue_rows.specs.Tables.{after}
 use Rattle.queue_rows.specs.Session.{Session, is_same_db}
 use Rattle.queue_rows.specs.Meaning.{answers}
@@ -45,6 +45,7 @@ use Rattle.statement_laws.proofs.Standing.{IsCommit, is_commit, IsRollback, is_r
 use Rattle.statement_laws.proofs.Stepping.{TakesSo, none, once, takes_so, HoldsSame, listen_same, enqueue_keeps_standing, dequeue_keeps_standing, listen_keeps_standing}
 use Rattle.statement_laws.proofs.Administering.{administration_keeps_standing}
 use Rattle.world_laws.specs.ValidWorld.{asks_ordered, is_ordered, IsRight}
+use Rattle.world_laws.proofs.Ids.{takes_no_id}
 use Rattle.world_laws.proofs.Plain.{is_plain, committed_fields, committed_latest, commit_plain, rollback_plain, IsPlainJudged, judged_plain}
 
 -- ---- what is committed
@@ -173,6 +174,32 @@ answered_standing w i s statements.Rollback reply cs after behind r top there wi
     more_standing (committed_tables t cs w.moment) s.at next (ids_taken reply) w.moment (slice_set w.sessions i behind)
     (rollback_keeps_standing t s.at next w.moment i s w.sessions reply cs after behind r.valid r.latest top r.standing there (own_db s.at) e held)
 
+-- it takes an id where one is left, or none
+takes_or_not : (reply : Reply) (ask : Enqueue) (t : Tables) (s : Session) (next moment : ℕ) (cs : List Change) (after : Session) → Adds reply ask t s next moment cs after → (ids_taken reply ≡ 0) ⊎ ((ids_taken reply ≡ 1) × (next < NEXT_LIMIT))
+takes_or_not (replies.Enqueued id) ask t s next moment cs after h =
+    let e = h.number_is in
+    let w = h.right.id_within in
+    let below : next < NEXT_LIMIT = omega (arith, e, w) in
+    inr (refl, below)
+takes_or_not _ ask t s next moment cs after h = inl refl
+
+answered_takes : (w : World) (i : ℕ) (s : Session) (statement : Statement) (reply : Reply) (cs : List Change) (after : Session) → IsRight (database_at s.at w).tables s.at (database_at s.at w).next w.moment w.sessions → w.moment ≤ MOMENT_LIMIT
+    → is_within statement ≡ true → meaning w i s statement ≡ answers reply cs after → (ids_taken reply ≡ 0) ⊎ ((ids_taken reply ≡ 1) × ((database_at s.at w).next < NEXT_LIMIT))
+unfolding meaning
+answered_takes w i s (statements.Admin ask) reply cs after r top within e = inl (takes_no_id w i s (statements.Admin ask) reply cs after refl e)
+answered_takes w i s (statements.Enqueue ask) reply cs after r top within e =
+    let t = (database_at s.at w).tables in
+    let next = (database_at s.at w).next in
+    takes_or_not reply ask t s next w.moment cs after (enqueue_adds_right t s ask next w.moment reply cs after r.valid r.fields r.latest top r.standing.up within e)
+answered_takes w i s (statements.Dequeue ask) reply cs after r top within e = inl (takes_no_id w i s (statements.Dequeue ask) reply cs after refl e)
+answered_takes w i s (statements.Listen ask) reply cs after r top within e = inl (takes_no_id w i s (statements.Listen ask) reply cs after refl e)
+answered_takes w i s statements.Commit reply cs after r top within e = inl (takes_no_id w i s statements.Commit reply cs after refl e)
+answered_takes w i s statements.Rollback reply cs after r top within e = inl (takes_no_id w i s statements.Rollback reply cs after refl e)
+
+taken_within : (next taken : ℕ) → next ≤ NEXT_LIMIT → (taken ≡ 0) ⊎ ((taken ≡ 1) × (next < NEXT_LIMIT)) → next + taken ≤ NEXT_LIMIT
+taken_within next taken le (inl e) = omega (arith, le, e)
+taken_within next taken le (inr p) = let e = p.0 in let below = p.1 in omega (arith, e, below)
+
 pub answered_right : (w : World) (i : ℕ) (s : Session) (statement : Statement) (reply : Reply) (cs : List Change) (after behind : Session) → IsRight (database_at s.at w).tables s.at (database_at s.at w).next w.moment w.sessions → w.moment ≤ MOMENT_LIMIT
     → slice_get w.sessions i ≡ Some s → is_within statement ≡ true → is_ordered statement ≡ true → meaning w i s statement ≡ answers reply cs after → HoldsAs behind s after
     → IsRight (committed_tables (database_at s.at w).tables cs w.moment) s.at ((database_at s.at w).next + ids_taken reply) w.moment (slice_set w.sessions i behind)
@@ -184,4 +211,5 @@ answered_right w i s statement reply cs after behind r top there within ordered 
       fields = committed_fields t w.moment cs f.plain r.fields;
       latest = committed_latest t w.moment cs f.plain r.latest;
       standing = answered_standing w i s statement reply cs after behind r top there within e held;
+      most = taken_within (database_at s.at w).next (ids_taken reply) r.most (answered_takes w i s statement reply cs after r top within e);
     }

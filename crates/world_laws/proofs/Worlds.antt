@@ -66,9 +66,9 @@ module _ (t : Tables) (db : DbId) (next moment i : ℕ) (s behind : Session) (se
 
 replaced_by : (t : Tables) (db : DbId) (next moment i : ℕ) (s behind : Session) (sessions : List Session) (b : Bool) → is_same_db s.at db ≡ b → IsRight t db next moment sessions → slice_get sessions i ≡ Some s → behind.at ≡ s.at
     → (is_same_db s.at db ≡ true → AreStanding t db next moment (slice_set sessions i behind)) → IsRight t db next moment (slice_set sessions i behind)
-replaced_by t db next moment i s behind sessions true e r there same own = record { valid = r.valid; fields = r.fields; latest = r.latest; standing = own e }
+replaced_by t db next moment i s behind sessions true e r there same own = record { valid = r.valid; fields = r.fields; latest = r.latest; standing = own e; most = r.most }
 replaced_by t db next moment i s behind sessions false e r there same own =
-    record { valid = r.valid; fields = r.fields; latest = r.latest; standing = foreign_standing t db next moment i s behind sessions r.standing there e (ap (λ d. is_same_db d db) same ∙ e) }
+    record { valid = r.valid; fields = r.fields; latest = r.latest; standing = foreign_standing t db next moment i s behind sessions r.standing there e (ap (λ d. is_same_db d db) same ∙ e); most = r.most }
 
 -- ---- the beginning
 
@@ -81,6 +81,13 @@ latest_within : (t : Tables) → is_valid t ≡ true → t.latest ≤ MOMENT_LIM
 latest_within t v =
     leb-true t.latest MOMENT_LIMIT (and_parts (nat_le 1 t.next && nat_le t.next NEXT_LIMIT && nat_le 1 t.transaction && nat_le t.transaction t.next) (nat_le t.latest MOMENT_LIMIT) (parts_of t v).numbers).1
 
+next_within : (t : Tables) → is_valid t ≡ true → t.next ≤ NEXT_LIMIT
+next_within t v =
+    let p4 = and_parts (nat_le 1 t.next && nat_le t.next NEXT_LIMIT && nat_le 1 t.transaction && nat_le t.transaction t.next) (nat_le t.latest MOMENT_LIMIT) (parts_of t v).numbers in
+    let p3 = and_parts (nat_le 1 t.next && nat_le t.next NEXT_LIMIT && nat_le 1 t.transaction) (nat_le t.transaction t.next) p4.0 in
+    let p2 = and_parts (nat_le 1 t.next && nat_le t.next NEXT_LIMIT) (nat_le 1 t.transaction) p3.0 in
+    leb-true t.next NEXT_LIMIT (and_parts (nat_le 1 t.next) (nat_le t.next NEXT_LIMIT) p2.0).1
+
 opened_right : (home away : Tables) (scripts : List SessionScript) → MayBegin home away scripts → (db : DbId)
     → IsRight (database_at db (opened home away scripts)).tables db (database_at db (opened home away scripts)).next (max home.latest away.latest) (map fresh scripts)
 unfolding opened
@@ -89,12 +96,14 @@ opened_right home away scripts b Home = record {
   fields = b.home_fields;
   latest = omega arith;
   standing = empty_are_standing home Home home.next (max home.latest away.latest) (map fresh scripts) b.home_valid (omega arith) (fresh_empty scripts);
+  most = next_within home b.home_valid;
 }
 opened_right home away scripts b Away = record {
   valid = b.away_valid;
   fields = b.away_fields;
   latest = omega arith;
   standing = empty_are_standing away Away away.next (max home.latest away.latest) (map fresh scripts) b.away_valid (omega arith) (fresh_empty scripts);
+  most = next_within away b.away_valid;
 }
 
 opening_within : (a b : ℕ) → a ≤ MOMENT_LIMIT → b ≤ MOMENT_LIMIT → max a b ≤ MOMENT_LIMIT
@@ -112,7 +121,7 @@ opens_valid home away scripts b = record {
 -- ---- a reading
 
 right_later : (t : Tables) (db : DbId) (next moment later : ℕ) (sessions : List Session) → moment ≤ later → IsRight t db next moment sessions → IsRight t db next later sessions
-right_later t db next moment later sessions le r = record { valid = r.valid; fields = r.fields; latest = let x = r.latest in omega (arith, x, le); standing = standing_later t db next moment next later sessions (omega arith) le r.standing }
+right_later t db next moment later sessions le r = record { valid = r.valid; fields = r.fields; latest = let x = r.latest in omega (arith, x, le); standing = standing_later t db next moment next later sessions (omega arith) le r.standing; most = r.most }
 
 read_right : (w : World) (reading : ℕ) (db : DbId) → IsRight (database_at db w).tables db (database_at db w).next w.moment w.sessions
     → IsRight (database_at db (read_clock reading w)).tables db (database_at db (read_clock reading w)).next (read_clock reading w).moment (read_clock reading w).sessions

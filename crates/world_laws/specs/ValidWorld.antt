@@ -2,7 +2,7 @@
 use Rattle.std.specs.Prelude.{◌≡◌, ◌≤◌, ℕ, List, Bool, true, None}
 use Rattle.std.specs.List.{list_all}
 use Rattle.aq_base.specs.declared.DbId.{DbId}
-use Rattle.aq_base.specs.declared.limits.TheConstants.{MOMENT_LIMIT}
+use Rattle.aq_base.specs.declared.limits.TheConstants.{MOMENT_LIMIT, NEXT_LIMIT}
 use Rattle.payload_records.specs.Order.{is_in_order}
 use Rattle.queue_rows.specs.Session.{Session}
 use Rattle.queue_rows.specs.World.{World, database_at}
@@ -35,13 +35,14 @@ pub record AreScripts (scripts : List SessionScript) : Type 0 where
 
 -- ---- a database
 
--- Its tables are valid, with the fields of each table in order, and no later than the moment; and the sessions stand in them, with the
--- next id that is to be given.
+-- Its tables are valid, with the fields of each table in order, and no later than the moment; the sessions stand in them, with the next
+-- id that is to be given; and that id is none past its limit.
 pub record IsRight (t : Tables) (db : DbId) (next moment : ℕ) (sessions : List Session) : Type 0 where
   pub valid : is_valid t ≡ true
   pub fields : has_ordered_fields t ≡ true
   pub latest : t.latest ≤ moment
   pub standing : AreStanding t db next moment sessions
+  pub most : next ≤ NEXT_LIMIT
 
 -- ---- a world
 

@@ -1,4 +1,5 @@
 // Laws over the definitions of `queue_rows`, each a function without a body.
+ghost use Rattle.world_laws.specs.Examples.{ExampleBegins};
 ghost use Rattle.world_laws.specs.WorldLaws.{
   CallFits,
   LegalIsValid,
@@ -30,4 +31,9 @@ pub fn legal_is_valid()
 /// What a call commits fits the tables on which it is made.
 pub fn call_fits()
     ensures { CallFits }
+{}
+
+/// A history may begin with the tables of the example and its script.
+pub fn example_begins()
+    ensures { ExampleBegins }
 {}

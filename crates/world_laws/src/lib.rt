@@ -5,4 +5,6 @@
 
 mod laws;
 
-pub use laws::{call_fits, legal_is_valid, opens_valid, reading_keeps_valid, step_keeps_valid};
+pub use laws::{
+    call_fits, example_begins, legal_is_valid, opens_valid, reading_keeps_valid, step_keeps_valid,
+};
