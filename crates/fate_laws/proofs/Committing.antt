@@ -51,7 +51,7 @@ put_none_one (changes.Enqueued row) e = absurd (true≢false e)
 put_none_one (changes.PutTable row) e = refl
 put_none_one _ e = refl
 
-no_ids : (cs : List Change) → list_any is_put_in cs ≡ false → ids_put_in cs ≡ []
+pub no_ids : (cs : List Change) → list_any is_put_in cs ≡ false → ids_put_in cs ≡ []
 no_ids [] h = refl
 no_ids (c ∷ cs) h =
     let p = or_parts (is_put_in c) (list_any is_put_in cs) h in ap (λ o. cons_option o (ids_put_in cs)) (put_none_one c p.0) ∙ no_ids cs p.1

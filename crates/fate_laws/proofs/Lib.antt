@@ -4,5 +4,6 @@ pub mod Committing
 pub mod Courses
 pub mod Fating
 pub mod Holding
+pub mod Judging
 pub mod Naming
 pub mod Opening

@@ -1,5 +1,5 @@
 -- The laws of proper changes: each kind of commit has them, and a further commit may stand behind those of a history.
-use Rattle.std.specs.Prelude.{◌≡◌, ◌≤◌, ◌==◌, ◌++◌, ℕ, List, [], ◌∷◌, true, false, filter_map, All, AllPairs, Option, Some, None}
+use Rattle.std.specs.Prelude.{◌≡◌, ◌≤◌, ◌==◌, ◌++◌, ℕ, List, [], ◌∷◌, true, false, filter_map, All, AllPairs, Option, Some, None, Ok}
 use Rattle.aq_base.specs.declared.DbId.{DbId}
 use Rattle.aq_base.specs.declared.limits.TheConstants.{MOMENT_LIMIT}
 use Rattle.queue_rows.specs.Rows.{find_sub}
@@ -10,7 +10,7 @@ use Rattle.queue_rows.specs.Transactions.{rollback_of}
 use Rattle.queue_rows.specs.Session.{Session}
 use Rattle.queue_rows.specs.Due.{due}
 use Rattle.queue_rows.specs.Propagating.{Parcel, taken_in, confirming}
-use Rattle.queue_rows.specs.Catalog.{dropped_in}
+use Rattle.queue_rows.specs.Catalog.{dropped_in, judged}
 use Rattle.queue_rows.specs.Valid.{is_valid, is_valid_schedule}
 use Rattle.queue_rows.specs.declared.tables.Tables.{Tables}
 use Rattle.queue_rows.specs.declared.rows.SubRow.{SubRow}
@@ -20,6 +20,7 @@ use Rattle.queue_rows.specs.declared.session.Pending.TheVariants.{Add, Remove}
 use Rattle.queue_rows.specs.declared.change.Change.{Change}
 use Rattle.queue_rows.specs.declared.change.Change.TheVariants.{DropSub}
 use Rattle.queue_rows.specs.declared.history.SlotRef.{SlotRef}
+use Rattle.queue_rows.specs.declared.statement.Admin.{Admin}
 use Rattle.valid_laws.specs.Openness.{is_open_at}
 use Rattle.valid_laws.specs.Touching.{are_proper}
 use Rattle.valid_laws.specs.PendingLaws.{MayCommit}
@@ -71,6 +72,11 @@ ConfirmationIsProper = (t : Tables) (at : SlotRef) (schedule : ScheduleRow) (mom
 abbrev pub SubscriberRemovalIsProper : Type 0
 SubscriberRemovalIsProper = (t : Tables) (sub : SubRow) (moment : ℕ) → is_valid t ≡ true → t.latest ≤ moment → moment ≤ MOMENT_LIMIT
     → find_sub t sub.queue sub.name ≡ Some sub → IsProperCommit t (settled t (DropSub sub.queue sub.name ∷ dropped_in t sub moment)) []
+
+-- and so is whatever an administrative statement changes that is not refused
+abbrev pub AdministrationIsProper : Type 0
+AdministrationIsProper = (t : Tables) (ask : Admin) (moment : ℕ) (cs : List Change) → is_valid t ≡ true → t.latest ≤ moment → moment ≤ MOMENT_LIMIT
+    → judged t ask moment ≡ Ok cs → IsProperCommit t (settled t cs) []
 
 -- ---- one commit behind others
 

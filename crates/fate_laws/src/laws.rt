@@ -1,5 +1,6 @@
 // The laws of fates, over the definitions of `queue_rows`, each a function without a body.
 ghost use Rattle.fate_laws.specs.CommitLaws.{
+  AdministrationIsProper,
   ArrivalIsProper,
   CommitIsProper,
   ConfirmationIsProper,
@@ -44,6 +45,11 @@ pub fn confirmation_is_proper()
 /// The removal of a subscriber is proper.
 pub fn subscriber_removal_is_proper()
     ensures { SubscriberRemovalIsProper }
+{}
+
+/// Whatever an administrative statement changes that is not refused is proper.
+pub fn administration_is_proper()
+    ensures { AdministrationIsProper }
 {}
 
 /// What was committed stays proper with a further proper commit, whose ids are new.

@@ -6,6 +6,7 @@
 mod laws;
 
 pub use laws::{
-    arrival_is_proper, commit_is_proper, confirmation_is_proper, due_is_proper, proper_grows,
-    proper_has_fates, rollback_is_proper, subscriber_removal_is_proper,
+    administration_is_proper, arrival_is_proper, commit_is_proper, confirmation_is_proper,
+    due_is_proper, proper_grows, proper_has_fates, rollback_is_proper,
+    subscriber_removal_is_proper,
 };
