@@ -27,7 +27,7 @@ use Rattle.message_choice.specs.Indexed.{stamped}
 use Rattle.ready_slots.specs.Edits.{Removes, entry}
 use Rattle.ready_slots.specs.Taking.{TakesEach, TakesRow, is_named, taken_where, told}
 
-is_Equal : (o : Ordering) → is_eq o ≡ true → o ≡ Equal
+pub is_Equal : (o : Ordering) → is_eq o ≡ true → o ≡ Equal
 is_Equal Less e = cc e
 is_Equal Equal e = refl
 is_Equal Greater e = cc e
@@ -60,7 +60,7 @@ take_told queue consumer place stamp before after edits q c =
 
 -- ---- rows are taken out one by one
 
-kept_twice : {T : Type 0} (p : T → Bool) (xs : List T) → filter p (filter p xs) ≡ filter p xs
+pub kept_twice : {T : Type 0} (p : T → Bool) (xs : List T) → filter p (filter p xs) ≡ filter p xs
 kept_twice p [] = refl
 kept_twice p (x ∷ xs) =
     let P : Bool → Type 0 = λ b. p x ≡ b → filter p (cond b (x ∷ filter p xs) (filter p xs)) ≡ cond b (x ∷ filter p xs) (filter p xs) in
@@ -83,7 +83,7 @@ kept_by_other Less other = refl
 kept_by_other Equal other = absurd (other refl)
 kept_by_other Greater other = refl
 
-none_gone : (row : Row) (rows : List Row) → IsFree row rows → without_row row rows ≡ rows
+pub none_gone : (row : Row) (rows : List Row) → IsFree row rows → without_row row rows ≡ rows
 none_gone row [] free = refl
 none_gone row (x ∷ xs) free =
     let others = without_row row xs in
@@ -95,7 +95,7 @@ all_gone : (goes : Bool) (row : Row) (rows : List Row) → (goes ≡ false → I
 all_gone true row rows free = refl
 all_gone false row rows free = sym (none_gone row rows (free refl))
 
-or_true : (a b : Bool) → b ≡ true → (a || b) ≡ true
+pub or_true : (a b : Bool) → b ≡ true → (a || b) ≡ true
 or_true true b e = refl
 or_true false b e = e
 
@@ -108,11 +108,11 @@ any_weaker p q h (x ∷ xs) e =
       | false ↦ λ px rest. or_true (q x) (list_any q xs) (any_weaker p q h xs rest)
     ] refl e
 
-same_name : (a : Option (List ℕ)) (name : List ℕ) → is_same_consumer a (Some name) ≡ true → a ≡ Some name
+pub same_name : (a : Option (List ℕ)) (name : List ℕ) → is_same_consumer a (Some name) ≡ true → a ≡ Some name
 same_name None name e = cc e
 same_name (Some x) name e = ap Some ((bytes_eq-Decides x name).0 e)
 
-own_names : (q : List ℕ) (c : Option (List ℕ)) → is_of q c (key q c) ≡ true
+pub own_names : (q : List ℕ) (c : Option (List ℕ)) → is_of q c (key q c) ≡ true
 own_names q c = ap is_eq (tied_itself group_cmp_total (key q c))
 
 -- a message that stands for a consumer names it, or it is the nameless one

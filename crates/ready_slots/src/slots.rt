@@ -1,9 +1,11 @@
 // The index of ready slots, and what edits of messages make of it.
-ghost use Rattle.std.specs.Prelude.{◌≡◌, ◌≤◌, OnOk, [], option_copied};
-ghost use Rattle.ready_slots.specs.Edits.{Removes};
-ghost use Rattle.ready_slots.specs.Taking.{TakesEach, TakesRow};
+ghost use Rattle.std.specs.Prelude.{◌≡◌, ◌+◌, ◌<◌, ◌≤◌, OnOk, [], length, option_copied};
+ghost use Rattle.ready_slots.specs.Edits.{Adds, Removes};
+ghost use Rattle.ready_slots.specs.Keys.{AreKeysOf};
+ghost use Rattle.ready_slots.specs.Taking.{PutsRow, TakesEach, TakesRow};
 
-use payload_records::Name;
+use crate::Key;
+use payload_records::{List, Name};
 use place_keys::Place;
 use queue_rows::MsgRow;
 use sort_index::ReadyIndex;
@@ -76,5 +78,30 @@ impl ReadySlots {
     {
         self.take(&message.queue, None, &message.place, stamp);
         self.take_named(stamp, message);
+    }
+
+    // Puts the row of a key in, where it is not there yet.
+    fn put(&mut self, stamp: u64, key: Key)
+        requires { 0 < self.old.spare }
+        ensures rows { PutsRow key.queue key.consumer key.place stamp self.old.groups self.new.groups }
+        ensures room { self.old.spare ≡ self.new.spare + 1 }
+    {
+        let _slot = self
+            .index
+            .take(&key.queue, key.consumer.as_ref(), &key.place, stamp);
+        self.index.put(key.queue, key.consumer, key.place, stamp, 0);
+    }
+
+    /// A message has come under a stamp that is greater than all others: its rows come. It takes no memory.
+    pub fn add(&mut self, stamp: u64, message: &MsgRow, keys: List<Key>)
+        requires keys { AreKeysOf message.now keys }
+        requires room { length keys ≤ self.old.spare }
+        ensures rows { Adds stamp message.now self.old.groups self.new.groups }
+        ensures room { self.old.spare ≡ self.new.spare + length keys }
+    {
+        let mut keys = keys;
+        while let Some(key) = keys.pop() {
+            self.put(stamp, key);
+        }
     }
 }
