@@ -9,7 +9,7 @@ ghost use Rattle.sessions.specs.Within.{IsQueueWithin};
 ghost use Rattle.sessions.specs.declared.state.PositionMove.TheVariants.{Keep};
 ghost use Rattle.aq_world.specs.Administering.{add_queue, Administers, HasJudged, MayStand, CommitsWithin, IsPlainEffect};
 
-use exception_queues::{find_queue, find_table, is_exception};
+use exception_queues::{find_queue, find_table};
 use message_store::Store;
 use payload_records::{Copied, List, Name, RecordType};
 use place_keys::SortList;
@@ -108,7 +108,7 @@ fn started(row: &QueueRow, enqueue: Option<bool>, dequeue: bool) -> Result<Queue
     ensures { IfOk result (λ new. new ≡ started row.now enqueue dequeue) }
 {
     let mut new = row.copied()?;
-    let takes = enqueue.unwrap_or(!is_exception(new.kind));
+    let takes = enqueue.unwrap_or(!new.kind.is_exception());
     new.enqueue = new.enqueue || takes;
     new.dequeue = new.dequeue || dequeue;
     Ok(new)
@@ -124,7 +124,7 @@ fn start_row(
     ensures judged { IfOk result (λ j. j ≡ start (Some row.now) enqueue dequeue) }
     ensures stands { IfOk result MayStand }
 {
-    if is_exception(row.kind) && enqueue.unwrap_or(false) {
+    if row.kind.is_exception() && enqueue.unwrap_or(false) {
         return Ok(Err(Reply::WrongKind));
     }
     let mut commit = List::new(alloc);

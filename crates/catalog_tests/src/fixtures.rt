@@ -2,6 +2,7 @@
 use payload_records::{Field, Kind, List, Name, Record, RecordType, Shared};
 use place_keys::{Column, Place, SortList};
 use queue_rows::{
+use row_tree::Tree;
     MsgRow, QueueKind, QueueRow, ScheduleRow, SlotRow, SlotState, SubRow, TableRow, Tables,
 };
 use rule_conditions::Facts;
@@ -229,9 +230,9 @@ fn message(alloc: Global, row: &Message) -> Result<MsgRow, Fail> {
     Ok(message_of(row.0, queue, place, facts, slots))
 }
 
-fn add_messages(messages: &mut List<MsgRow>, alloc: Global, rows: &[Message]) -> Result<(), Fail> {
+fn add_messages(messages: &mut Tree<MsgRow>, alloc: Global, rows: &[Message]) -> Result<(), Fail> {
     for row in rows {
-        messages.push(message(alloc, row)?)?;
+        messages.append(alloc, message(alloc, row)?)?;
     }
     Ok(())
 }

@@ -1,40 +1,18 @@
 // Which messages a dequeue may give.
-ghost use Rattle.std.specs.Prelude.{◌≡◌, option_copied};
+ghost use Rattle.std.specs.Prelude.{◌≡◌};
 ghost use Rattle.slot_marks.specs.Marks.{marks_of};
-ghost use Rattle.queue_rows.specs.Settling.{is_ready};
-ghost use Rattle.queue_rows.specs.Dequeueing.{is_browse, is_ready_slot};
+ghost use Rattle.queue_rows.specs.Dequeueing.{is_browse};
 ghost use Rattle.dequeue_ops.specs.Available.{criteria, own_slot, is_held, is_free, is_available_slot, is_available};
 
-use exception_queues::is_exception;
 use payload_records::Name;
-use queue_rows::{Mode, MsgRow, QueueRow, SlotRow, SlotState};
+use queue_rows::{Mode, MsgRow, QueueRow};
 use row_locks::RowLocks;
-
-fn is_ready(state: SlotState) -> bool
-    ensures { result ≡ is_ready state }
-{
-    match state {
-        SlotState::Ready => true,
-        SlotState::Waiting | SlotState::Processed | SlotState::Expired | SlotState::Dropped => {
-            false
-        }
-    }
-}
-
-fn is_ready_slot(slot: Option<&SlotRow>) -> bool
-    ensures { result ≡ is_ready_slot (option_copied slot.entry) }
-{
-    match slot {
-        Some(slot) => is_ready(slot.state),
-        None => false,
-    }
-}
 
 /// The slot that is taken of a queue's messages without a consumer.
 pub fn own_slot(queue: &QueueRow) -> u32
     ensures { result ≡ own_slot queue.now }
 {
-    if is_exception(queue.kind) { 0 } else { 1 }
+    if queue.kind.is_exception() { 0 } else { 1 }
 }
 
 /// Whether the mode takes no message, and holds none.
@@ -66,7 +44,7 @@ fn is_free(locks: &RowLocks, actor: u32, mode: Mode, message: &MsgRow, slot: u32
 fn is_available_slot(locks: &RowLocks, actor: u32, mode: Mode, message: &MsgRow, slot: u32) -> bool
     ensures { result ≡ is_available_slot locks.now actor mode message.now slot }
 {
-    is_ready_slot(message.slot(u64::from(slot)))
+    message.is_slot_ready(u64::from(slot))
         && !locks.removed(actor, message.id, slot)
         && is_free(locks, actor, mode, message, slot)
 }

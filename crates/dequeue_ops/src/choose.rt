@@ -9,6 +9,7 @@ use crate::availability::{Selection, is_available, is_browse};
 use payload_records::{List, Name};
 use place_keys::compare;
 use queue_rows::{MsgRow, Navigation, Position};
+use row_tree::Tree;
 
 fn is_position(queue: &Name, position: &Position) -> bool
     ensures { result ≡ is_position queue.now None position.now }
@@ -75,7 +76,7 @@ fn is_wanted(selection: Selection<'_>, position: Option<&Position>, message: &Ms
 fn least_wanted<'a>(
     selection: Selection<'_>,
     position: Option<&Position>,
-    messages: &'a List<MsgRow>,
+    messages: &'a Tree<MsgRow>,
 ) -> Option<&'a MsgRow>
     ensures { option_copied result ≡ least_selected selection.entry position.entry messages.now }
 {
@@ -92,7 +93,7 @@ fn least_wanted<'a>(
 fn chosen_or_first<'a>(
     selection: Selection<'_>,
     behind: Option<&'a MsgRow>,
-    messages: &'a List<MsgRow>,
+    messages: &'a Tree<MsgRow>,
 ) -> Option<&'a MsgRow>
     ensures { option_copied result ≡ selected_or_first selection.entry behind.entry messages.now }
 {
@@ -112,7 +113,7 @@ fn chosen_or_first<'a>(
 pub fn choose<'a>(
     selection: Selection<'_>,
     position: Option<&Position>,
-    messages: &'a List<MsgRow>,
+    messages: &'a Tree<MsgRow>,
 ) -> Option<&'a MsgRow>
     ensures { option_copied result ≡ selected_behind selection.entry position.entry messages.now }
 {

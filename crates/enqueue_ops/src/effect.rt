@@ -8,7 +8,7 @@ ghost use Rattle.enqueue_ops.specs.Enqueued.{IsRefusal, MeansToAdd, MeansToAddCe
 
 use crate::addition::{Stamp, addition};
 use aq_base::{DbId, NEXT_LIMIT};
-use exception_queues::{find_queue, find_table, is_exception};
+use exception_queues::{find_queue, find_table};
 use message_store::Store;
 use payload_records::{List, PayloadFault, Record};
 use queue_rows::{Enqueue, LimitName, MsgId, MsgRow, Pending, Reply, TableRow, Visibility};
@@ -169,7 +169,7 @@ pub fn enqueue(
     let Some(queue) = find_queue(tables, &ask.queue) else {
         return Ok(refused(alloc, Reply::NoQueue));
     };
-    if is_exception(queue.kind) {
+    if queue.kind.is_exception() {
         return Ok(refused(alloc, Reply::WrongKind));
     }
     if !queue.enqueue {

@@ -10,4 +10,4 @@ mod slots;
 
 pub use lookup::{MessageTables, find_queue, find_table};
 pub use settling::{exception_queue_of, settle};
-pub use slots::{is_exception, slot_of};
+pub use slots::slot_of;

@@ -5,9 +5,7 @@ ghost use Rattle.exception_queues.specs.Outcomes.{outcome_of, settled_by, settli
 
 use crate::lookup::{MessageTables, find_queue};
 use crate::outcomes::{Outcome, Outcomes, outcomes_of};
-use crate::slots::{
-    all_gone, any_expired, any_open, any_processed, is_exception, is_slot_processed,
-};
+use crate::slots::{all_gone, any_expired, any_open, any_processed, is_slot_processed};
 use payload_records::{Copied, List, Name};
 use queue_rows::{Change, MsgRow, QueueRow, Tables};
 use std::alloc::AllocError;
@@ -47,7 +45,7 @@ fn is_exception_of(table: &Name, queue: Option<&QueueRow>) -> bool
     ensures { result ≡ is_exception_of table.now (option_copied queue.entry) }
 {
     match queue {
-        Some(queue) => is_exception(queue.kind) && queue.table == *table,
+        Some(queue) => queue.kind.is_exception() && queue.table == *table,
         None => false,
     }
 }

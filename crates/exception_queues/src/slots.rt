@@ -2,58 +2,12 @@
 ghost use Rattle.std.specs.Prelude.{◌≡◌, option_copied};
 ghost use Rattle.std.specs.List.{list_any, list_all};
 ghost use Rattle.queue_rows.specs.Rows.{slot_of};
-ghost use Rattle.queue_rows.specs.Settling.{is_exception, is_open, is_processed, is_expired, is_gone, is_slot_processed};
+ghost use Rattle.queue_rows.specs.Settling.{is_open, is_processed, is_expired, is_gone, is_slot_processed};
 
 use payload_records::List;
-use queue_rows::{MsgRow, QueueKind, SlotRow, SlotState};
+use queue_rows::{MsgRow, SlotRow};
 
 // ---- states
-
-/// Whether it is a queue for messages that could not be handled.
-pub fn is_exception(kind: QueueKind) -> bool
-    ensures { result ≡ is_exception kind }
-{
-    match kind {
-        QueueKind::Normal => false,
-        QueueKind::Exception => true,
-    }
-}
-
-fn is_open(state: SlotState) -> bool
-    ensures { result ≡ is_open state }
-{
-    match state {
-        SlotState::Ready | SlotState::Waiting => true,
-        SlotState::Processed | SlotState::Expired | SlotState::Dropped => false,
-    }
-}
-
-fn is_processed(state: SlotState) -> bool
-    ensures { result ≡ is_processed state }
-{
-    match state {
-        SlotState::Processed => true,
-        SlotState::Ready | SlotState::Waiting | SlotState::Expired | SlotState::Dropped => false,
-    }
-}
-
-fn is_expired(state: SlotState) -> bool
-    ensures { result ≡ is_expired state }
-{
-    match state {
-        SlotState::Expired => true,
-        SlotState::Ready | SlotState::Waiting | SlotState::Processed | SlotState::Dropped => false,
-    }
-}
-
-fn is_gone(state: SlotState) -> bool
-    ensures { result ≡ is_gone state }
-{
-    match state {
-        SlotState::Processed | SlotState::Dropped => true,
-        SlotState::Ready | SlotState::Waiting | SlotState::Expired => false,
-    }
-}
 
 // ---- the slots of a message
 
@@ -69,7 +23,7 @@ pub fn is_slot_processed(message: &MsgRow, slot: u64) -> bool
     ensures { result ≡ is_slot_processed message.now slot }
 {
     match message.slot(slot) {
-        Some(slot) => is_processed(slot.state),
+        Some(slot) => slot.state.is_processed(),
         None => false,
     }
 }
@@ -78,26 +32,26 @@ pub fn is_slot_processed(message: &MsgRow, slot: u64) -> bool
 pub fn any_open(slots: &List<SlotRow>) -> bool
     ensures { result ≡ list_any (λ s. is_open s.state) slots.now }
 {
-    slots.iter().any(|s| is_open(s.state))
+    slots.iter().any(|s| s.state.is_open())
 }
 
 /// Whether one of the slots has expired.
 pub fn any_expired(slots: &List<SlotRow>) -> bool
     ensures { result ≡ list_any (λ s. is_expired s.state) slots.now }
 {
-    slots.iter().any(|s| is_expired(s.state))
+    slots.iter().any(|s| s.state.is_expired())
 }
 
 /// Whether one of the slots was taken.
 pub fn any_processed(slots: &List<SlotRow>) -> bool
     ensures { result ≡ list_any (λ s. is_processed s.state) slots.now }
 {
-    slots.iter().any(|s| is_processed(s.state))
+    slots.iter().any(|s| s.state.is_processed())
 }
 
 /// Whether each of the slots was taken, or its subscriber was removed.
 pub fn all_gone(slots: &List<SlotRow>) -> bool
     ensures { result ≡ list_all (λ s. is_gone s.state) slots.now }
 {
-    slots.iter().all(|s| is_gone(s.state))
+    slots.iter().all(|s| s.state.is_gone())
 }

@@ -4,49 +4,18 @@ ghost use Rattle.std.specs.Str.{bytes_eq};
 ghost use Rattle.slot_marks.specs.Marks.{AreHeldOnce, IsFreeGroup, IsFreeSlot, IsHolder};
 ghost use Rattle.queue_rows.specs.Groups.{consumer_of, group_of};
 ghost use Rattle.queue_rows.specs.Session.{has_removed, is_held};
-ghost use Rattle.queue_rows.specs.Settling.{is_ready};
-ghost use Rattle.queue_rows.specs.Dequeueing.{is_available_slot, is_browse, is_free, is_local_for, is_ready_slot, meets, meets_corr, slot_for, slot_in, slot_number};
+ghost use Rattle.queue_rows.specs.Dequeueing.{is_available_slot, is_browse, is_free, is_local_for, meets, meets_corr, slot_for, slot_in, slot_number};
 ghost use Rattle.choice_laws.specs.Choosing.{may_give};
 ghost use Rattle.message_choice.specs.Asking.{IsSoundFor, look_of};
 ghost use Rattle.message_choice.specs.Wanted.{lies_in};
 
 use crate::asking::{Asking, Filter};
-use exception_queues::is_exception;
 use payload_records::{Name, Text};
-use queue_rows::{Mode, MsgRow, QueueRow, SlotRow, SlotState, lane_of};
+use queue_rows::{Mode, MsgRow, QueueRow, lane_of};
 use rule_checks::is_met;
 use rule_conditions::like;
 
 // ---- slots
-
-fn is_ready(state: SlotState) -> bool
-    ensures { result ≡ is_ready state }
-{
-    match state {
-        SlotState::Ready => true,
-        SlotState::Waiting | SlotState::Processed | SlotState::Expired | SlotState::Dropped => {
-            false
-        }
-    }
-}
-
-fn is_ready_slot(slot: Option<&SlotRow>) -> bool
-    ensures { result ≡ is_ready_slot (option_copied slot.entry) }
-{
-    match slot {
-        Some(slot) => is_ready(slot.state),
-        None => false,
-    }
-}
-
-fn is_local_for(consumer: &Name, slot: &SlotRow) -> bool
-    ensures { result ≡ is_local_for consumer.now slot.now }
-{
-    match &slot.name {
-        Some(name) => *name == *consumer && slot.address.is_none(),
-        None => false,
-    }
-}
 
 fn local_index(consumer: &Name, message: &MsgRow) -> Option<usize>
     ensures at { result ≡ position (is_local_for consumer.now) message.now.slots }
@@ -55,7 +24,7 @@ fn local_index(consumer: &Name, message: &MsgRow) -> Option<usize>
     message
         .slots
         .iter()
-        .position(|slot| is_local_for(consumer, slot))
+        .position(|slot| slot.is_local_for(consumer))
 }
 
 // The consumer's local slot.
@@ -74,7 +43,7 @@ fn slot_for(queue: &QueueRow, consumer: Option<&Name>, message: &MsgRow) -> Opti
 {
     match consumer {
         Some(consumer) => local_slot(consumer, message),
-        None => Some(if is_exception(queue.kind) { 0 } else { 1 }),
+        None => Some(if queue.kind.is_exception() { 0 } else { 1 }),
     }
 }
 
@@ -147,7 +116,7 @@ fn is_available_slot(asking: &Asking<'_>, message: &MsgRow, slot: u32) -> bool
     requires here { bytes_eq message.now.queue asking.now.pick.now.queue.now.name ≡ true }
     ensures { result ≡ is_available_slot (look_of asking.now) message.now (Some slot) }
 {
-    is_ready_slot(message.slot(u64::from(slot)))
+    message.is_slot_ready(u64::from(slot))
         && !has_removed(asking, message, slot)
         && is_free(asking, message, slot)
 }

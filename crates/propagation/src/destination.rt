@@ -7,7 +7,7 @@ ghost use Rattle.propagation.specs.Sent.{parcel_of};
 
 use crate::sent::Sent;
 use aq_base::NEXT_LIMIT;
-use exception_queues::{find_queue, find_table, is_exception};
+use exception_queues::{find_queue, find_table};
 use payload_records::{Field, List, RecordType};
 use queue_rows::{Cause, SeenRow, SlotRef, TableRow, Tables};
 
@@ -79,7 +79,7 @@ pub(crate) fn destination<'a>(
     let Some(queue) = find_queue(there, &sent.schedule.to) else {
         return Err(Cause::NoQueue);
     };
-    if is_exception(queue.kind) {
+    if queue.kind.is_exception() {
         return Err(Cause::WrongKind);
     }
     if !queue.enqueue {

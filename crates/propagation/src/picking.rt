@@ -6,9 +6,9 @@ ghost use Rattle.propagation.specs.Few.{HasFewSlots};
 
 use crate::schedules::is_open_at;
 use crate::sendable::{can_send_of, first_to_send};
-use payload_records::List;
 use place_keys::compare;
 use queue_rows::{MsgRow, ScheduleRow, Tables};
+use row_tree::Tree;
 
 fn nearer<'a>(best: Option<&'a MsgRow>, message: &'a MsgRow) -> &'a MsgRow
     ensures { Some result.now ≡ nearer (option_copied best.entry) message.now }
@@ -28,7 +28,7 @@ fn nearer<'a>(best: Option<&'a MsgRow>, message: &'a MsgRow) -> &'a MsgRow
 fn least_to_send<'a>(
     schedule: &ScheduleRow,
     moment: u64,
-    messages: &'a List<MsgRow>,
+    messages: &'a Tree<MsgRow>,
 ) -> Option<&'a MsgRow>
     requires { All HasFewSlots messages.now }
     ensures { option_copied result ≡ least (filter (can_send_of schedule.now moment) messages.now) }

@@ -8,23 +8,12 @@ ghost use Rattle.propagation.specs.Few.{HasFewSlots};
 
 use crate::schedules::has_sent_since;
 use crate::sent::goes_to;
-use queue_rows::{MsgRow, ScheduleRow, SlotRow, SlotState};
-
-fn is_ready(state: SlotState) -> bool
-    ensures { result ≡ is_ready state }
-{
-    match state {
-        SlotState::Ready => true,
-        SlotState::Waiting | SlotState::Processed | SlotState::Expired | SlotState::Dropped => {
-            false
-        }
-    }
-}
+use queue_rows::{MsgRow, ScheduleRow, SlotRow};
 
 fn can_send(schedule: &ScheduleRow, moment: u64, slot: &SlotRow) -> bool
     ensures { result ≡ can_send schedule.now moment slot.now }
 {
-    is_ready(slot.state) && goes_to(&schedule.to, slot) && has_sent_since(schedule, slot.at, moment)
+    slot.state.is_ready() && goes_to(&schedule.to, slot) && has_sent_since(schedule, slot.at, moment)
 }
 
 fn can_send_slot(schedule: &ScheduleRow, moment: u64, message: &MsgRow, slot: u32) -> bool

@@ -21,7 +21,7 @@ fn add_origin(tables: &mut Tables, alloc: Global, plan: Plan) -> Result<(), Fail
     let schedule = rows::schedule(alloc, "inq", plan)?;
     tables.schedules.push(schedule)?;
     let message = rows::message(alloc, &SEVEN)?;
-    tables.messages.push(message)?;
+    tables.messages.append(alloc, message)?;
     Ok(())
 }
 

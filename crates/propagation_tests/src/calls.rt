@@ -7,6 +7,7 @@ use crate::rows;
 use payload_records::List;
 use propagation::{Arriving, arrive, confirm, pick, schedule_of};
 use queue_rows::{Change, MsgRow, SlotRef, Tables};
+use row_tree::Tree;
 use std::alloc::AllocError;
 use std::test::Fail;
 
@@ -16,7 +17,7 @@ fn has_few(message: &MsgRow) -> bool
     message.recipient_count() < 100
 }
 
-fn have_few(messages: &List<MsgRow>) -> bool
+fn have_few(messages: &Tree<MsgRow>) -> bool
     ensures { IsTrue result → All HasFewSlots messages.now }
 {
     messages.iter().all(|message| has_few(message))

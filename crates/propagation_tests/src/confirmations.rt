@@ -65,7 +65,7 @@ fn add_rows(tables: &mut Tables, alloc: Global, row: &Case) -> Result<(), Fail> 
     let schedule = rows::schedule(alloc, "inq", row.2)?;
     tables.schedules.push(schedule)?;
     let message = rows::message(alloc, &(7, "mq", 9, row.0))?;
-    tables.messages.push(message)?;
+    tables.messages.append(alloc, message)?;
     Ok(())
 }
 

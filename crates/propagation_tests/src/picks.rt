@@ -3,13 +3,14 @@ use crate::calls;
 use crate::rows::{self, ALWAYS, MessageOf, Plan};
 use payload_records::List;
 use queue_rows::{MsgRow, ScheduleRow, SlotState, Tables};
+use row_tree::Tree;
 use std::alloc::Global;
 use std::process::Abort;
 use std::test::Fail;
 
-fn add_messages(messages: &mut List<MsgRow>, alloc: Global, all: &[MessageOf]) -> Result<(), Fail> {
+fn add_messages(messages: &mut Tree<MsgRow>, alloc: Global, all: &[MessageOf]) -> Result<(), Fail> {
     for row in all {
-        messages.push(rows::message(alloc, row)?)?;
+        messages.append(alloc, rows::message(alloc, row)?)?;
     }
     Ok(())
 }
@@ -116,17 +117,17 @@ const TIMES: [Time; 36] = [
     (EACH_7_OF_20, 25, 31, true),
 ];
 
-const SEVEN: &[MessageOf] = &[(7, "mq", 0, &[("inq", SlotState::Ready, 0)])];
+const SEVEN: MessageOf = (7, "mq", 0, &[("inq", SlotState::Ready, 0)]);
 
-fn since(messages: &mut List<MsgRow>, at: u64) {
-    if let Some(message) = messages.get_mut(0) {
-        message.set_slot_state(1, SlotState::Ready, at);
-    }
+fn add_since(messages: &mut Tree<MsgRow>, alloc: Global, at: u64) -> Result<(), Fail> {
+    let mut message = rows::message(alloc, &SEVEN)?;
+    message.set_slot_state(1, SlotState::Ready, at);
+    messages.append(alloc, message)?;
+    Ok(())
 }
 
 fn add_time(tables: &mut Tables, alloc: Global, row: &Time) -> Result<(), Fail> {
-    add_messages(&mut tables.messages, alloc, SEVEN)?;
-    since(&mut tables.messages, row.1);
+    add_since(&mut tables.messages, alloc, row.1)?;
     add_schedules(&mut tables.schedules, alloc, &[("inq", row.0)])
 }
 

@@ -4,7 +4,7 @@ ghost use Rattle.queue_rows.specs.Rows.{find_table, find_sub, find_schedule, is_
 ghost use Rattle.queue_rows.specs.Recipients.{has_consumers};
 ghost use Rattle.queue_rows.specs.Catalog.{has_subscribers};
 
-use exception_queues::{find_table, is_exception};
+use exception_queues::find_table;
 use payload_records::Name;
 use queue_rows::{QueueRow, ScheduleRow, SubRow, TableRow, Tables};
 use std::alloc::AllocError;
@@ -53,7 +53,7 @@ pub(crate) fn find_schedule<'a>(
 pub(crate) fn has_consumers(queue: &QueueRow, table: &TableRow) -> bool
     ensures { result ≡ has_consumers queue.now table.now }
 {
-    table.multi && !is_exception(queue.kind)
+    table.multi && !queue.kind.is_exception()
 }
 
 /// Whether the queue may have subscribers and schedules.

@@ -8,7 +8,7 @@ ghost use Rattle.queue_catalog.specs.Judging.{Refuses};
 use crate::changes::one;
 use crate::fault::CatalogFault;
 use crate::lookup::exception_name;
-use exception_queues::{find_queue, find_table, is_exception};
+use exception_queues::{find_queue, find_table};
 use payload_records::{Copied, List, Name};
 use queue_rows::{Change, QueueKind, QueueRow, Reply, Tables};
 use std::alloc::{AllocError, Global};
@@ -90,7 +90,7 @@ fn started(row: &QueueRow, enqueue: Option<bool>, dequeue: bool) -> Result<Queue
     ensures { IfOk result (λ new. new ≡ started row.now enqueue dequeue) }
 {
     let mut new = row.copied()?;
-    let takes = enqueue.unwrap_or(!is_exception(new.kind));
+    let takes = enqueue.unwrap_or(!new.kind.is_exception());
     new.enqueue = new.enqueue || takes;
     new.dequeue = new.dequeue || dequeue;
     Ok(new)
@@ -110,7 +110,7 @@ pub(crate) fn start_queue(
     let Some(row) = find_queue(tables, queue) else {
         return Err(CatalogFault::Refused(Reply::NoQueue));
     };
-    if is_exception(row.kind) && enqueue.unwrap_or(false) {
+    if row.kind.is_exception() && enqueue.unwrap_or(false) {
         return Err(CatalogFault::Refused(Reply::WrongKind));
     }
     Ok(one(alloc, Change::PutQueue(started(row, enqueue, dequeue)?))?)

@@ -5,17 +5,8 @@ ghost use Rattle.queue_rows.specs.Session.{is_same_consumer};
 ghost use Rattle.queue_rows.specs.Catalog.{is_slot_of, dropped_slot, dropped_of, dropped_in};
 
 use payload_records::{List, Name};
-use queue_rows::{Change, MsgRow, SlotRow, SlotState, SubRow, Tables};
+use queue_rows::{Change, MsgRow, SlotRow, SubRow, Tables};
 use std::alloc::AllocError;
-
-fn is_open(state: SlotState) -> bool
-    ensures { result ≡ is_open state }
-{
-    match state {
-        SlotState::Ready | SlotState::Waiting => true,
-        SlotState::Processed | SlotState::Expired | SlotState::Dropped => false,
-    }
-}
 
 fn is_named(consumer: &Option<Name>, name: &Name) -> bool
     ensures { result ≡ is_same_consumer consumer.now (Some name.now) }
@@ -43,7 +34,7 @@ fn drop_slot(
 ) -> Result<(), AllocError>
     ensures { OnOk result (changes.new ≡ changes.old ++ option_to_list (dropped_slot sub.now moment id (number, slot.now))) }
 {
-    if is_slot_of(sub, slot) && is_open(slot.state) {
+    if is_slot_of(sub, slot) && slot.state.is_open() {
         return changes.push(Change::Dropped {
             id,
             slot: number,

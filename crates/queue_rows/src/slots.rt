@@ -1,13 +1,96 @@
 // The slots of messages: how one is found, set and retried, and how a message is moved.
 ghost use Rattle.std.specs.Prelude.{◌≡◌, OnOk, OnErr, option_copied};
 ghost use Rattle.queue_rows.specs.Rows.{changed_nth, recipient_count, has_slot, slot_index, slot_of, with_slot};
+ghost use Rattle.queue_rows.specs.Settling.{is_exception, is_open, is_ready, is_processed, is_expired, is_gone};
+ghost use Rattle.queue_rows.specs.Dequeueing.{is_local_for, is_ready_slot};
 ghost use Rattle.queue_rows.specs.Tables.{in_state, retried, most_retries, slot_zero, moved_to};
 
-use crate::{MsgRow, SlotRow, SlotState};
+use crate::{MsgRow, QueueKind, SlotRow, SlotState};
 use payload_records::{List, Name};
 use std::alloc::AllocError;
 
+impl QueueKind {
+    /// Whether it is a queue for messages that could not be handled.
+    pub fn is_exception(self) -> bool
+        ensures { result ≡ is_exception self }
+    {
+        match self {
+            QueueKind::Normal => false,
+            QueueKind::Exception => true,
+        }
+    }
+}
+
+impl SlotState {
+    /// Whether it was not taken yet, and may be: at once or later.
+    pub fn is_open(self) -> bool
+        ensures { result ≡ is_open self }
+    {
+        match self {
+            SlotState::Ready | SlotState::Waiting => true,
+            SlotState::Processed | SlotState::Expired | SlotState::Dropped => false,
+        }
+    }
+
+    /// Whether it can be taken at once.
+    pub fn is_ready(self) -> bool
+        ensures { result ≡ is_ready self }
+    {
+        match self {
+            SlotState::Ready => true,
+            SlotState::Waiting
+            | SlotState::Processed
+            | SlotState::Expired
+            | SlotState::Dropped => false,
+        }
+    }
+
+    /// Whether it was taken.
+    pub fn is_processed(self) -> bool
+        ensures { result ≡ is_processed self }
+    {
+        match self {
+            SlotState::Processed => true,
+            SlotState::Ready | SlotState::Waiting | SlotState::Expired | SlotState::Dropped => {
+                false
+            }
+        }
+    }
+
+    /// Whether its time ran out, or it was rolled back too often.
+    pub fn is_expired(self) -> bool
+        ensures { result ≡ is_expired self }
+    {
+        match self {
+            SlotState::Expired => true,
+            SlotState::Ready | SlotState::Waiting | SlotState::Processed | SlotState::Dropped => {
+                false
+            }
+        }
+    }
+
+    /// Whether it was taken, or its subscriber was removed.
+    pub fn is_gone(self) -> bool
+        ensures { result ≡ is_gone self }
+    {
+        match self {
+            SlotState::Processed | SlotState::Dropped => true,
+            SlotState::Ready | SlotState::Waiting | SlotState::Expired => false,
+        }
+    }
+}
+
 impl SlotRow {
+    /// Whether it is for that consumer of its own database.
+    pub fn is_local_for(&self, consumer: &Name) -> bool
+        ensures { result ≡ is_local_for consumer.now self.now }
+    {
+        match &self.name {
+            Some(name) => *name == *consumer && self.address.is_none(),
+            None => false,
+        }
+    }
+
     /// It is in that state from a moment on. It takes no memory.
     pub fn set_state(&mut self, state: SlotState, at: u64)
         ensures { self.new ≡ in_state state at self.old }
@@ -92,6 +175,16 @@ impl MsgRow {
             return None;
         }
         self.slots.get(self.slot_index(slot) as usize)
+    }
+
+    /// Whether it has a slot of that number that can be taken at once. It takes no memory.
+    pub fn is_slot_ready(&self, slot: u64) -> bool
+        ensures { result ≡ is_ready_slot (slot_of self.now slot) }
+    {
+        match self.slot(slot) {
+            Some(slot) => slot.state.is_ready(),
+            None => false,
+        }
     }
 
     /// The slot of that number, if it has one, is in that state from a moment on. It takes no memory.

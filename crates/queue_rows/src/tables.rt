@@ -4,6 +4,7 @@ ghost use Rattle.queue_rows.specs.Tables.{empty_tables};
 
 use crate::{MsgRow, QueueRow, ScheduleRow, SeenRow, SubRow, TableRow};
 use payload_records::List;
+use row_tree::Tree;
 use std::alloc::Global;
 
 /// What a database holds.
@@ -18,7 +19,7 @@ pub struct Tables {
     /// The schedules.
     pub schedules: List<ScheduleRow>,
     /// The messages, in the order of their commits.
-    pub messages: List<MsgRow>,
+    pub messages: Tree<MsgRow>,
     /// What has arrived from the other database.
     pub seen: List<SeenRow>,
     /// One above the greatest id that was committed.
@@ -39,7 +40,7 @@ impl Tables {
             queues: List::new(alloc),
             subs: List::new(alloc),
             schedules: List::new(alloc),
-            messages: List::new(alloc),
+            messages: Tree::new(),
             seen: List::new(alloc),
             next: 1,
             transaction: 1,

@@ -1,5 +1,5 @@
 // A tree of rows, which contracts see as the list of its rows.
-ghost use Rattle.std.specs.Prelude.{◌≡◌, ◌↔◌, IsTrue, ◌+◌, ◌-◌, ◌<◌, ◌≤◌, [], ◌∷◌, ◌++◌, length, insert, remove, slice_get, option_copied, Some, IsSome, IfSome, IfNone};
+ghost use Rattle.std.specs.Prelude.{◌≡◌, ◌↔◌, IsTrue, ◌+◌, ◌-◌, ◌<◌, ◌≤◌, [], ◌∷◌, ◌++◌, length, insert, remove, slice_get, option_copied, Some, IsSome, IfSome, IfNone, OnOk, OnErr};
 ghost use Rattle.std.specs.Fn.{CalledAt};
 ghost use Rattle.std.specs.List.{prefix_len};
 ghost use Rattle.std.specs.List.Retain.{IsFiltered};
@@ -171,6 +171,19 @@ impl<T: Drop> Tree<T> {
     {
         let tree = mem::replace(self, Tree::new());
         *self = tree.inserted(at, row, spare);
+    }
+
+    /// Puts a row at the end, in memory that it takes. At want of memory the rows are as before.
+    pub fn append(&mut self, alloc: Global, row: T) -> Result<(), AllocError>
+        ensures ok { OnOk result (self.new ≡ self.old ++ row ∷ []) }
+        ensures err { OnErr result (self.new ≡ self.old) }
+    {
+        if self.len() == usize::MAX {
+            return Err(AllocError);
+        }
+        let spare = Spare::new(alloc)?;
+        self.push(row, spare);
+        Ok(())
     }
 
     /// Puts a row at the end. It takes no memory.

@@ -4,6 +4,7 @@ use exception_queues::{exception_queue_of, settle};
 use payload_records::{List, Name};
 use place_keys::Place;
 use queue_rows::{Change, MsgRow, QueueKind, QueueRow, SlotRow, SlotState, Tables};
+use row_tree::Tree;
 use std::alloc::{AllocError, Global};
 use std::process::Abort;
 use std::test::Fail;
@@ -83,9 +84,9 @@ const MESSAGES: [Named; 9] = [
     (9, "q", "x"),
 ];
 
-fn add_messages(messages: &mut List<MsgRow>, alloc: Global, rows: &[Named]) -> Result<(), Fail> {
+fn add_messages(messages: &mut Tree<MsgRow>, alloc: Global, rows: &[Named]) -> Result<(), Fail> {
     for (id, queue, exception) in rows {
-        messages.push(message(alloc, *id, queue, exception)?)?;
+        messages.append(alloc, message(alloc, *id, queue, exception)?)?;
     }
     Ok(())
 }

@@ -6,6 +6,7 @@ use crate::fixtures;
 use message_store::Store;
 use payload_records::{List, Name};
 use queue_rows::{Change, MsgRow, QueueKind, QueueRow, Tables};
+use row_tree::Tree;
 use std::alloc::{AllocError, Global};
 use std::process::Abort;
 use std::test::Fail;
@@ -112,7 +113,7 @@ fn put_message(out: &mut String, message: &MsgRow) -> Result<(), AllocError> {
     out.push_str(", ")
 }
 
-fn put_messages(out: &mut String, messages: &List<MsgRow>) -> Result<(), AllocError> {
+fn put_messages(out: &mut String, messages: &Tree<MsgRow>) -> Result<(), AllocError> {
     for message in messages {
         put_message(out, message)?;
     }

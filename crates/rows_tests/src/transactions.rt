@@ -7,6 +7,7 @@ use aq_base::DbId;
 use payload_records::{List, Name};
 use place_keys::{Place, SortList};
 use queue_rows::{MsgRow, Pending, QueueKind, QueueRow, SlotRow, SlotState, TableRow, Tables};
+use row_tree::Tree;
 use rule_conditions::Facts;
 use sessions::{SessionState, commit_changes, rollback_changes};
 use std::alloc::{AllocError, Global};
@@ -77,9 +78,9 @@ fn message(alloc: Global, row: &Retried) -> Result<MsgRow, Fail> {
     Ok(fixtures::message_of(row.0, queue, place, facts, None, slots))
 }
 
-fn add_messages(messages: &mut List<MsgRow>, alloc: Global, rows: &[Retried]) -> Result<(), Fail> {
+fn add_messages(messages: &mut Tree<MsgRow>, alloc: Global, rows: &[Retried]) -> Result<(), Fail> {
     for row in rows {
-        messages.push(message(alloc, row)?)?;
+        messages.append(alloc, message(alloc, row)?)?;
     }
     Ok(())
 }
@@ -205,7 +206,7 @@ fn are_slots_countable(slots: &List<SlotRow>) -> bool
     slots.iter().all(|slot| slot.retries < 1000)
 }
 
-fn are_countable(messages: &List<MsgRow>) -> bool
+fn are_countable(messages: &Tree<MsgRow>) -> bool
     ensures { IsTrue result → All AreCountable messages.now }
 {
     messages.iter().all(|m| are_slots_countable(&m.slots))

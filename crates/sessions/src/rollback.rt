@@ -6,7 +6,7 @@ ghost use Rattle.sessions.specs.Retries.{expiry_at, retried_at, slot_retried, re
 ghost use Rattle.sessions.specs.Within.{RollbackStaysWithin};
 
 use crate::SessionState;
-use exception_queues::{MessageTables, find_queue, is_exception, settle};
+use exception_queues::{MessageTables, find_queue, settle};
 use payload_records::List;
 use queue_rows::{Change, MsgRow, Pending, QueueRow, SlotRow, Tables};
 use std::alloc::AllocError;
@@ -105,7 +105,7 @@ fn retry_in(
     let Some(queue) = queue else {
         return Ok(());
     };
-    if is_exception(queue.kind) {
+    if queue.kind.is_exception() {
         return Ok(());
     }
     retry_slot(made, queue, message.slot(at.slot), at)

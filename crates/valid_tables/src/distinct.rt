@@ -7,6 +7,7 @@ ghost use Rattle.valid_tables.specs.Met.{has_name, has_pair, MeetsName, MeetsPai
 
 use payload_records::{Copied, List, Name};
 use queue_rows::{MsgRow, QueueRow, ScheduleRow, SeenRow, SubRow, TableRow, Tables};
+use row_tree::Tree;
 use std::alloc::{AllocError, Global};
 use std::collections::BTreeSet;
 
@@ -77,7 +78,7 @@ fn are_distinct_schedules(alloc: Global, schedules: &List<ScheduleRow>) -> Resul
     Ok(true)
 }
 
-fn are_distinct_messages(alloc: Global, messages: &List<MsgRow>) -> Result<bool, AllocError>
+fn are_distinct_messages(alloc: Global, messages: &Tree<MsgRow>) -> Result<bool, AllocError>
     ensures { IfOk result (λ distinct. distinct ≡ are_distinct is_same_message messages.now) }
 {
     let mut met = BTreeSet::new(alloc);

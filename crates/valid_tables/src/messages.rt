@@ -10,7 +10,6 @@ ghost use Rattle.queue_rows.specs.Valid.{is_right_queue, is_of_kind, are_of_kind
 
 use crate::catalog::Catalog;
 use crate::slots::has_right_slots;
-use exception_queues::is_exception;
 use payload_records::{Datum, Field, Kind, List, PROP_LIMIT, Prop};
 use place_keys::{BEFORE_LIMIT, Place};
 use queue_rows::{MsgRow, QueueRow, TableRow, lane_of};
@@ -20,9 +19,9 @@ fn is_right_queue(message: &MsgRow, queue: &QueueRow) -> bool
     ensures { result ≡ is_right_queue message.now queue.now }
 {
     if message.moved {
-        is_exception(queue.kind)
+        queue.kind.is_exception()
     } else {
-        !is_exception(queue.kind)
+        !queue.kind.is_exception()
     }
 }
 

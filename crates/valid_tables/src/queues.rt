@@ -6,7 +6,6 @@ ghost use Rattle.queue_rows.specs.Valid.{has_right_lowest, is_valid_queue};
 use crate::catalog::Catalog;
 use crate::numbers::is_time;
 use aq_base::MAX_RETRIES_LIMIT;
-use exception_queues::is_exception;
 use queue_rows::QueueRow;
 
 // Its lowest lane is at most 0, and not below the negated next id.
@@ -21,7 +20,7 @@ fn is_valid_queue(catalog: &Catalog<'_>, queue: &QueueRow) -> bool
     ensures { result ≡ is_valid_queue catalog.now queue.now }
 {
     catalog.table(&queue.table).is_some()
-        && !(is_exception(queue.kind) && queue.enqueue)
+        && !(queue.kind.is_exception() && queue.enqueue)
         && queue.max_retries <= MAX_RETRIES_LIMIT
         && is_time(queue.retry_delay)
         && is_time(queue.retention)

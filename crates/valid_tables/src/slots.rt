@@ -15,34 +15,6 @@ const RETRIES_LIMIT: u64 = 1 << 31;
 
 // ---- states
 
-fn is_open(state: SlotState) -> bool
-    ensures { result ≡ is_open state }
-{
-    match state {
-        SlotState::Ready | SlotState::Waiting => true,
-        SlotState::Processed | SlotState::Expired | SlotState::Dropped => false,
-    }
-}
-
-fn is_ready(state: SlotState) -> bool
-    ensures { result ≡ is_ready state }
-{
-    match state {
-        SlotState::Ready => true,
-        SlotState::Waiting | SlotState::Processed | SlotState::Expired | SlotState::Dropped =>
-            false,
-    }
-}
-
-fn is_processed(state: SlotState) -> bool
-    ensures { result ≡ is_processed state }
-{
-    match state {
-        SlotState::Processed => true,
-        SlotState::Ready | SlotState::Waiting | SlotState::Expired | SlotState::Dropped => false,
-    }
-}
-
 fn is_waiting(state: SlotState) -> bool
     ensures { result ≡ is_waiting state }
 {
@@ -144,7 +116,7 @@ fn is_right_slot_zero(slot: Option<&SlotRow>) -> bool
 {
     match slot {
         Some(slot) => {
-            (is_ready(slot.state) || is_processed(slot.state)) && slot.expires.is_none()
+            (slot.state.is_ready() || slot.state.is_processed()) && slot.expires.is_none()
         }
         None => false,
     }
@@ -157,7 +129,7 @@ fn none_open(message: &MsgRow) -> bool
         .slots
         .iter()
         .take(message.recipient_count())
-        .all(|slot| !is_open(slot.state))
+        .all(|slot| !slot.state.is_open())
 }
 
 // In a moved message no slot but slot 0 can be taken, and slot 0 is ready or processed and has no expiry.
@@ -179,7 +151,7 @@ fn has_right_retries(slot: &SlotRow) -> bool
 fn has_allowed_retries(queue: &QueueRow, slot: &SlotRow) -> bool
     ensures { result ≡ has_allowed_retries queue.now slot.now }
 {
-    !is_open(slot.state) || slot.retries <= queue.max_retries
+    !slot.state.is_open() || slot.retries <= queue.max_retries
 }
 
 fn have_right_retries(message: &MsgRow) -> bool

@@ -9,7 +9,6 @@ ghost use Rattle.queue_rows.specs.Valid.{takes_subscribers, is_right_rule, is_va
 use crate::catalog::Catalog;
 use crate::numbers::{is_span, is_time};
 use aq_base::{MOMENT_LIMIT, SUBSCRIBER_LIMIT};
-use exception_queues::is_exception;
 use payload_records::Name;
 use queue_rows::{QueueRow, ScheduleRow, SubRow, TableRow};
 use rule_conditions::{Cond, CondFault, check};
@@ -19,7 +18,7 @@ fn has_subscribers(queue: &QueueRow, table: Option<&TableRow>) -> bool
     ensures { result ≡ has_subscribers queue.now (option_copied table.entry) }
 {
     match table {
-        Some(table) => table.multi && !is_exception(queue.kind),
+        Some(table) => table.multi && !queue.kind.is_exception(),
         None => false,
     }
 }

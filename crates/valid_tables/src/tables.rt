@@ -6,7 +6,6 @@ ghost use Rattle.queue_rows.specs.Rows.{find_queue, exception_name};
 ghost use Rattle.queue_rows.specs.Valid.{is_default_exception, is_valid_table};
 
 use crate::catalog::Catalog;
-use exception_queues::is_exception;
 use payload_records::{FIELD_LIMIT, Name};
 use queue_rows::{QueueRow, TableRow};
 use std::alloc::AllocError;
@@ -14,7 +13,7 @@ use std::alloc::AllocError;
 fn is_default_exception(table: &Name, queue: &QueueRow) -> bool
     ensures { result ≡ is_default_exception table.now queue.now }
 {
-    is_exception(queue.kind) && queue.table == *table
+    queue.kind.is_exception() && queue.table == *table
 }
 
 fn has_default_exception(catalog: &Catalog<'_>, table: &Name) -> Result<bool, AllocError>
