@@ -13,7 +13,9 @@ use queue_rows::{MsgRow, ScheduleRow, SlotRow};
 fn can_send(schedule: &ScheduleRow, moment: u64, slot: &SlotRow) -> bool
     ensures { result ≡ can_send schedule.now moment slot.now }
 {
-    slot.state.is_ready() && goes_to(&schedule.to, slot) && has_sent_since(schedule, slot.at, moment)
+    slot.state.is_ready()
+        && goes_to(&schedule.to, slot)
+        && has_sent_since(schedule, slot.at, moment)
 }
 
 fn can_send_slot(schedule: &ScheduleRow, moment: u64, message: &MsgRow, slot: u32) -> bool

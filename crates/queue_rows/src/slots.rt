@@ -38,10 +38,8 @@ impl SlotState {
     {
         match self {
             SlotState::Ready => true,
-            SlotState::Waiting
-            | SlotState::Processed
-            | SlotState::Expired
-            | SlotState::Dropped => false,
+            SlotState::Waiting | SlotState::Processed | SlotState::Expired | SlotState::Dropped =>
+                false,
         }
     }
 
