@@ -2,9 +2,9 @@
 use payload_records::{Field, Kind, List, Name, Record, RecordType, Shared};
 use place_keys::{Column, Place, SortList};
 use queue_rows::{
-use row_tree::Tree;
     MsgRow, QueueKind, QueueRow, ScheduleRow, SlotRow, SlotState, SubRow, TableRow, Tables,
 };
+use row_tree::Tree;
 use rule_conditions::Facts;
 use std::alloc::{AllocError, Global};
 use std::test::Fail;
