@@ -160,34 +160,6 @@ pub fn commit(store: &mut Store, alloc: Global, change: Change) -> Result<(), Al
     store.commit(&changes, 1)
 }
 
-// ---- numbers that are small enough
-
-fn is_plain(table: &TableRow) -> bool
-    ensures { IsTrue result → IsPlainTable table.now }
-{
-    !table.multi && !table.grouped
-}
-
-/// Whether all tables are for one consumer and have no groups.
-pub fn are_plain(tables: &List<TableRow>) -> bool
-    ensures { IsTrue result → All IsPlainTable tables.now }
-{
-    tables.iter().all(|table| is_plain(table))
-}
-
-fn is_within(queue: &QueueRow) -> bool
-    ensures { IsTrue result → IsQueueWithin queue.now }
-{
-    queue.lowest >= -1000 && queue.retry_delay < 1000
-}
-
-/// Whether the numbers of all queues are small.
-pub fn are_within(queues: &List<QueueRow>) -> bool
-    ensures { IsTrue result → All IsQueueWithin queues.now }
-{
-    queues.iter().all(|queue| is_within(queue))
-}
-
 // ---- changes as short texts
 
 fn put_place(out: &mut String, place: &Place) -> Result<(), AllocError> {

@@ -1,12 +1,6 @@
-//! Tests of the crates that stand on rows: settling, transactions, the store, and what statements do.
+//! Tests of the crates that stand on rows: locks, settling, transactions and the store.
 #![tactic(auto)]
 
-#[cfg(test)]
-mod dequeues;
-#[cfg(test)]
-mod effects;
-#[cfg(test)]
-mod enqueues;
 #[cfg(test)]
 mod fixtures;
 #[cfg(test)]
