@@ -21,7 +21,7 @@ use crate::admin::admin;
 use crate::call_effect::{CallEffect, Holdings, NewPositions};
 use crate::run_database::RunDatabase;
 use crate::run_session::RunSession;
-use dequeue_ops::dequeue;
+use dequeue_ops::dequeue_plain;
 use enqueue_ops::enqueue;
 use payload_records::{List, Name};
 use queue_rows::{Admin, Dequeue, Enqueue, Reply, Statement};
@@ -154,7 +154,7 @@ fn dequeue_call(alloc: Global, caller: Caller<'_>, ask: &Dequeue) -> Result<Call
         IfSome (mark_of d.holdings) (IsFreeFor caller.entry.locks.now caller.entry.actor)) }
 {
     let _limit = caller.database.next();
-    let effect = dequeue(
+    let effect = dequeue_plain(
         alloc,
         caller.database.store(),
         caller.locks,

@@ -253,7 +253,7 @@ fn effect_of(request: Request<'_>) -> Result<Effect, AllocError>
 
 /// What a dequeue of the session of that number does, where the locks keep the marks of the sessions of its
 /// database.
-pub fn dequeue(
+pub fn dequeue_plain(
     alloc: Global,
     store: &Store,
     locks: &RowLocks,

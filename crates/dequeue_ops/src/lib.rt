@@ -6,4 +6,4 @@ mod choose;
 mod effect;
 mod reply;
 
-pub use effect::dequeue;
+pub use effect::dequeue_plain;

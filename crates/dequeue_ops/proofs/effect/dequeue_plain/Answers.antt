@@ -5,7 +5,7 @@ use Rattle.sessions.specs.declared.state.Effect.{Effect}
 use Rattle.dequeue_ops.specs.Effects.{Asked}
 use Rattle.dequeue_ops.proofs.Dequeued.{effect-means}
 use Rattle.dequeue_ops.proofs.Lawful.{IsLawful, lawful}
-use Rattle.dequeue_ops.proofs.effect.dequeue.Goals as goal
+use Rattle.dequeue_ops.proofs.effect.dequeue_plain.Goals as goal
 
 pub returns-clause-means : goal.returns-clause-means
 returns-clause-means c =
