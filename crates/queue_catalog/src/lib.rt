@@ -14,3 +14,4 @@ mod tables;
 pub use fault::CatalogFault;
 pub use judging::judge;
 pub use lookup::find_sub;
+pub use removal::is_slot_of;

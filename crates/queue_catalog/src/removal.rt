@@ -17,7 +17,8 @@ fn is_named(consumer: &Option<Name>, name: &Name) -> bool
     }
 }
 
-fn is_slot_of(sub: &SubRow, slot: &SlotRow) -> bool
+/// Whether the slot is the subscriber's, by its name and address. It takes no memory.
+pub fn is_slot_of(sub: &SubRow, slot: &SlotRow) -> bool
     ensures { result ≡ is_slot_of sub.now slot.now }
 {
     is_named(&slot.name, &sub.name) && slot.address == sub.address

@@ -6,9 +6,11 @@ mod entries;
 mod groups;
 mod holds;
 mod locks;
+mod marks;
 mod session_table;
 mod slots;
 mod tables;
 
 pub use locks::{LockFault, RowLocks};
+pub use marks::Marks;
 pub use slot_marks::{Group, Mark};

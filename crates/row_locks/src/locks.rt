@@ -7,6 +7,7 @@ ghost use Rattle.row_locks.specs.declared.locks.LockFault.TheVariants.{Held, Mem
 
 use crate::classes::Place;
 use crate::groups::{GroupIndex, GroupRef};
+use crate::marks::Marks;
 use crate::session_table::SessionTable;
 use crate::slots::SlotIndex;
 use crate::tables::{
@@ -159,6 +160,16 @@ impl RowLocks {
         ensures { result ≡ has_removed id slot (marks_of self.now session) }
     {
         self.slots.is_removed_by(session, id, slot)
+    }
+
+    /// The marks of the session in the order taken, each lent. It takes no memory.
+    pub fn marks_of(&self, session: u32) -> Marks<'_>
+        ensures { result ≡ marks_of self.now session }
+    {
+        match self.sessions.get(session as usize) {
+            None => Marks::none(),
+            Some(table) => table.marks(),
+        }
     }
 
     /// Frees the session's mark on the slot, if it has one. It takes no memory.

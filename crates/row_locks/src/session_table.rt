@@ -6,6 +6,7 @@ ghost use Rattle.row_locks.specs.Groups.{key_of, group_in, group_meant, have_nam
 
 use crate::entries::{has_entry_names, is_entry_in_group, keep_at, moved, put_last};
 use crate::groups::{GroupKey, GroupRef, mark_key};
+use crate::marks::Marks;
 use payload_records::Name;
 use slot_marks::Mark;
 use std::alloc::{AllocError, Global};
@@ -82,6 +83,13 @@ impl SessionTable {
         ensures { result ≡ self.now.spare }
     {
         self.spare
+    }
+
+    /// The marks in the order taken. It takes no memory.
+    pub(crate) fn marks(&self) -> Marks<'_>
+        ensures { result ≡ present self.now.entries }
+    {
+        Marks::of(self.entries.as_slice())
     }
 
     /// How many places there are.
