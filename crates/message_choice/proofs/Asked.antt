@@ -1,6 +1,6 @@
 -- A look that asks for the same as the plainest one is answered alike.
 use Rattle.std.proofs.Common.{◌≡◌, ℕ, List, filter, Option, Some, None, refl, ap, ◌∙◌, ◌&&◌, ◌||◌}
-use Rattle.std.specs.Prelude.{◌+◌, not, option_copied}
+use Rattle.std.specs.Prelude.{◌+◌, ◌*◌, not, option_copied}
 use Rattle.std.specs.Str.{bytes_eq}
 use Rattle.rule_conditions.specs.declared.condition.Cond.{Cond}
 use Rattle.queue_rows.specs.Groups.{group_of}
@@ -13,17 +13,16 @@ use Rattle.queue_rows.specs.declared.rows.TableRow.{TableRow}
 use Rattle.queue_rows.specs.declared.rows.MsgRow.{MsgRow}
 use Rattle.queue_rows.specs.declared.statement.Mode.{Mode}
 use Rattle.choice_laws.specs.Choosing.{may_give}
-use Rattle.choice_laws.specs.Entries.{Entry, messages_of}
 use Rattle.choice_laws.specs.LookLaws.{passed_over}
 use Rattle.message_choice.specs.Asking.{IsLookOf, look_of}
 use Rattle.message_choice.specs.Searched.{candidates, most_looks}
-use Rattle.message_choice.specs.Wanted.{IsSlotFor, filter_for, is_wanted, lies_in}
+use Rattle.message_choice.specs.Wanted.{IsSlotFor, filter_for, lies_in, most_steps}
 use Rattle.message_choice.specs.declared.asking.Asking.{Asking}
 use Rattle.message_choice.specs.declared.asking.Choice as own
 use Rattle.message_choice.specs.declared.asking.Choice.TheVariants as choices
 use Rattle.message_choice.proofs.Holding.{are_plain, held-same}
 
-module _ (a : Asking) (entries : List Entry) (l : Look) (is : IsLookOf a.pick.now a.actor a.locks.now entries l) where
+module _ (a : Asking) (ms : List MsgRow) (l : Look) (is : IsLookOf a.pick.now a.actor a.locks.now ms l) where
   abbrev pub plain : Look
   plain = look_of a
 
@@ -64,7 +63,7 @@ module _ (a : Asking) (entries : List Entry) (l : Look) (is : IsLookOf a.pick.no
   slot_in-alike : (m : MsgRow) → slot_in l m ≡ slot_in plain m
   slot_in-alike m = λ i. slot_for (is.queue i) (is.consumer i) m
 
-  pub chosen-alike : chosen l ≡ choice a.pick.now.navigation (option_copied a.pick.now.position) plain.table.grouped plain.ask.mode (candidates plain (messages_of entries))
+  pub chosen-alike : chosen l ≡ choice a.pick.now.navigation (option_copied a.pick.now.position) plain.table.grouped plain.ask.mode (candidates plain ms)
   chosen-alike = λ i. choice (is.navigation i) (is.position i) (is.table i).grouped (is.mode i) (filter (λ m. may_give-alike m i) (is.messages i))
 
   pub slot_for-alike : (c : own.Choice) → IsSlotFor plain c → IsSlotFor l c
@@ -72,5 +71,5 @@ module _ (a : Asking) (entries : List Entry) (l : Look) (is : IsLookOf a.pick.no
   slot_for-alike choices.EndOfGroup h = tt
   slot_for-alike choices.Nothing h = tt
 
-  pub looks-alike : passed_over l.queue.name l.ask.consumer (is_wanted l) l.tables.messages + 1 ≡ most_looks plain (filter_for a.pick.now.navigation (option_copied a.pick.now.position) plain.table.grouped) (messages_of entries)
-  looks-alike = λ i. passed_over ((is.queue i).name) (is.consumer i) (λ m. may_give-alike m i && lies_in (filter_for (is.navigation i) (is.position i) (is.table i).grouped) m) (is.messages i) + 1
+  pub looks-alike : most_steps l ≡ 2 * most_looks plain (filter_for a.pick.now.navigation (option_copied a.pick.now.position) plain.table.grouped) ms
+  looks-alike = λ i. 2 * (passed_over ((is.queue i).name) (is.consumer i) (λ m. may_give-alike m i && lies_in (filter_for (is.navigation i) (is.position i) (is.table i).grouped) m) (is.messages i) + 1)

@@ -1,7 +1,9 @@
 -- The rows of the index that a search goes over, and what it finds.
-use Rattle.std.proofs.Common.{◌≡◌, ℕ, ◌+◌, ◌*◌, ◌≤◌, ◌<◌, ℤ, Bool, true, false, cond, List, [], ◌∷◌, map, length, Option, Some, None, refl, sym, ap, ◌∙◌, arith}
+use Rattle.std.proofs.Common.{◌≡◌, ℕ, ◌+◌, ◌*◌, ◌≤◌, ◌<◌, ℤ, Bool, true, false, cond, List, [], ◌∷◌, map, length, Option, Some, None, refl, sym, ap, ◌∙◌, arith, subst}
 use Rattle.std.proofs.lemmas.Bool.{and_parts}
-use Rattle.std.specs.Prelude.{find, slice_get, option_and_then, option_map}
+use Rattle.std.proofs.lemmas.List.Elements.{All-head, All-tail}
+use Rattle.std.specs.List.{All}
+use Rattle.std.specs.Prelude.{◌==◌, find, slice_get, option_and_then, option_map}
 use Rattle.std.specs.Option.{option_map_or}
 use Rattle.row_tree.specs.Found.{kept_by}
 use Rattle.row_tree.specs.Order.{IsRising}
@@ -39,6 +41,17 @@ module _ {T U : Type 0} (told : T → U) where
   first_told : (xs : List T) → slice_get (map told xs) 0 ≡ option_map told (find (λ x. true) xs)
   first_told [] = refl
   first_told (x ∷ xs) = refl
+
+-- ---- messages under stamps
+
+-- what holds of all messages holds of the one under a stamp
+pub holds_at : (P : MsgRow → Type 0) (entries : List Entry) (stamp : ℕ) (m : MsgRow) → All P (messages_of entries) → message_at entries stamp ≡ Some m → P m
+holds_at P [] stamp m all e = cc e
+holds_at P (x ∷ xs) stamp m all e =
+    let first = All-head P x.message (messages_of xs) all in
+    let rest = All-tail P x.message (messages_of xs) all in
+    let Q : Bool → Type 0 = λ b. option_map (λ (y : Entry). y.message) (cond b (Some x) (find (λ (y : Entry). y.stamp == stamp) xs)) ≡ Some m → P m in
+    (elim (x.stamp == stamp) as Q [ true ↦ λ f. let same : x.message ≡ m = cc f in subst P same first | false ↦ λ f. holds_at P xs stamp m rest f ]) e
 
 -- ---- from which row the rows go on
 

@@ -1,5 +1,6 @@
 -- What is asked for, as a look of the definitions.
-use Rattle.std.specs.Prelude.{◌≡◌, ◌<◌, ◌^◌, ℕ, List, true, Some, None, map, length, option_copied, IfSome}
+use Rattle.std.specs.Prelude.{◌≡◌, ◌<◌, ◌^◌, ℕ, List, true, None, map, length, option_copied, IfSome}
+use Rattle.std.specs.List.{All}
 use Rattle.std.specs.Str.{bytes_eq}
 use Rattle.aq_base.specs.declared.DbId.TheVariants.{Home}
 use Rattle.slot_marks.specs.Marks.{SessionMarks, marks_of, has_slot, has_group}
@@ -14,7 +15,6 @@ use Rattle.queue_rows.specs.declared.rows.MsgRow.{MsgRow}
 use Rattle.queue_rows.specs.declared.statement.Dequeue.{Dequeue}
 use Rattle.queue_rows.specs.declared.statement.Visibility.TheVariants.{Immediate}
 use Rattle.sessions.specs.States.{AreMarks}
-use Rattle.choice_laws.specs.Entries.{Entry, message_at, messages_of}
 use Rattle.message_choice.specs.declared.asking.Asking.{Asking}
 use Rattle.message_choice.specs.declared.asking.Pick.{Pick}
 
@@ -22,8 +22,8 @@ use Rattle.message_choice.specs.declared.asking.Pick.{Pick}
 
 -- the look is one of the session of that number that asks for the pick, where these are the messages, and where the locks hold
 -- the marks of the sessions
-pub record IsLookOf (pick : Pick) (number : ℕ) (locks : List SessionMarks) (entries : List Entry) (l : Look) : Type 0 where
-  pub messages : l.tables.messages ≡ messages_of entries
+pub record IsLookOf (pick : Pick) (number : ℕ) (locks : List SessionMarks) (ms : List MsgRow) (l : Look) : Type 0 where
+  pub messages : l.tables.messages ≡ ms
   pub marks : AreMarks l.session.at l.sessions locks
   pub own : l.session.marks ≡ marks_of locks number
   pub actor : l.actor ≡ number
@@ -77,16 +77,17 @@ look_of a = record {
 -- has the slot's group too
 pub record IsSound (marks : List Mark) (queue : QueueRow) (table : TableRow) (m : MsgRow) : Type 0 where
   pub slots : length m.slots < 2 ^ 32
-  pub groups : bytes_eq m.queue queue.name ≡ true → (slot : ℕ) → has_slot m.id slot marks ≡ true → IfSome (group_of table m slot) (λ group. has_group group marks ≡ true)
+  pub groups : bytes_eq m.queue queue.name ≡ true → (slot : ℕ) → has_slot m.id slot marks ≡ true
+      → IfSome (group_of table m slot) (λ group. has_group group marks ≡ true)
 
--- so does each message that is kept under a stamp
-abbrev pub AreSound : List Mark → QueueRow → TableRow → List Entry → Type 0
-AreSound marks queue table entries = (stamp : ℕ) (m : MsgRow) → message_at entries stamp ≡ Some m → IsSound marks queue table m
+-- so does each message
+abbrev pub AreSound : List Mark → QueueRow → TableRow → List MsgRow → Type 0
+AreSound marks queue table messages = All (IsSound marks queue table) messages
 
 -- the message is sound for the session that asks
 abbrev pub IsSoundFor : Asking → MsgRow → Type 0
 IsSoundFor a m = IsSound (marks_of a.locks.now a.actor) a.pick.now.queue.now a.pick.now.table.now m
 
--- and so is each message that is kept under a stamp
-abbrev pub AreSoundFor : Asking → List Entry → Type 0
-AreSoundFor a entries = AreSound (marks_of a.locks.now a.actor) a.pick.now.queue.now a.pick.now.table.now entries
+-- and so is each message
+abbrev pub AreSoundFor : Asking → List MsgRow → Type 0
+AreSoundFor a messages = AreSound (marks_of a.locks.now a.actor) a.pick.now.queue.now a.pick.now.table.now messages

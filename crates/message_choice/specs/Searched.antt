@@ -6,7 +6,7 @@ use Rattle.sort_index.specs.declared.group.Ready.{Ready}
 use Rattle.sort_index.specs.declared.group.Group.{Group}
 use Rattle.choice_laws.specs.Choosing.{first_passing, looks, may_give}
 use Rattle.choice_laws.specs.Choosing as rows
-use Rattle.choice_laws.specs.Entries.{Entry, Row, AreRising, rows_for}
+use Rattle.choice_laws.specs.Entries.{Entry, Row, AreRising, messages_of, rows_for}
 use Rattle.choice_laws.specs.GoingLaws.{from_row}
 use Rattle.choice_laws.specs.LookLaws.{passed_over}
 use Rattle.message_choice.specs.Asking.{AreSoundFor}
@@ -19,7 +19,7 @@ use Rattle.message_choice.specs.declared.asking.Filter.{Filter}
 pub record CanSearch (a : Asking) (entries : List Entry) (groups : List Group) : Type 0 where
   pub rising : AreRising entries
   pub indexed : IndexesReady entries groups
-  pub sound : AreSoundFor a entries
+  pub sound : AreSoundFor a (messages_of entries)
 
 abbrev pub rows_in : Look → List Entry → List Row
 rows_in l entries = rows_for l.queue.name l.ask.consumer entries

@@ -1,5 +1,5 @@
 -- Which messages a navigation asks for, and what is found of them.
-use Rattle.std.specs.Prelude.{◌≡◌, ℕ, ℤ, ◌==◌, ◌&&◌, pos, int_lt, Bool, true, List, Option, Some, None, filter, option_map, if◌then◌else◌}
+use Rattle.std.specs.Prelude.{◌≡◌, ℕ, ℤ, ◌+◌, ◌*◌, ◌==◌, ◌&&◌, pos, int_lt, Bool, true, List, Option, Some, None, filter, option_map, if◌then◌else◌}
 use Rattle.place_keys.specs.Place.{stands_before}
 use Rattle.queue_rows.specs.Session.{position_in}
 use Rattle.queue_rows.specs.Tables.{lane_of}
@@ -10,6 +10,7 @@ use Rattle.queue_rows.specs.declared.session.Position.{Position}
 use Rattle.queue_rows.specs.declared.statement.Navigation.{Navigation}
 use Rattle.queue_rows.specs.declared.statement.Navigation.TheVariants as navigations
 use Rattle.choice_laws.specs.Choosing.{may_give}
+use Rattle.choice_laws.specs.LookLaws.{passed_over}
 use Rattle.message_choice.specs.declared.asking.Choice.{Choice}
 use Rattle.message_choice.specs.declared.asking.Choice.TheVariants as choices
 use Rattle.message_choice.specs.declared.asking.Filter.{Filter}
@@ -38,6 +39,11 @@ passes l f m = may_give l m && lies_in f m
 -- the dequeue may give the message, and its navigation asks for it
 abbrev pub is_wanted : Look → MsgRow → Bool
 is_wanted l m = passes l (filter_for l.ask.navigation (position_in l.session l.ask.queue l.ask.consumer) l.table.grouped) m
+
+-- a dequeue looks at no more rows: two more than twice as many as there are messages of the queue with a ready slot for the consumer
+-- that it may not give or does not ask for
+abbrev pub most_steps : Look → ℕ
+most_steps l = 2 * (passed_over l.queue.name l.ask.consumer (is_wanted l) l.tables.messages + 1)
 
 -- ---- what is found
 

@@ -8,11 +8,10 @@ ghost use Rattle.queue_rows.specs.declared.rows.MsgRow.{MsgRow};
 ghost use Rattle.queue_rows.specs.Dequeueing.{Look, choice, chosen, end_of_group, found_or, next_or_first, nothing, least, past, of_group, past_group};
 ghost use Rattle.queue_rows.specs.declared.statement.Navigation.TheVariants.{Next};
 ghost use Rattle.choice_laws.specs.Entries.{AreRising, messages_of};
-ghost use Rattle.choice_laws.specs.LookLaws.{passed_over};
 ghost use Rattle.message_choice.specs.Asking.{AreSound, IsLookOf, look_of};
 ghost use Rattle.message_choice.specs.Indexed.{IndexesReady};
 ghost use Rattle.message_choice.specs.Searched.{CanSearch, candidates, most_looks};
-ghost use Rattle.message_choice.specs.Wanted.{HasSlotFor, IsSlotFor, chosen_by, filter_for, is_wanted, message_of};
+ghost use Rattle.message_choice.specs.Wanted.{HasSlotFor, IsSlotFor, chosen_by, filter_for, message_of, most_steps};
 ghost use Rattle.message_choice.specs.declared.asking.Filter.TheVariants as filters;
 
 use crate::StampedMessages;
@@ -227,11 +226,14 @@ pub fn choose<'a, M: StampedMessages, L: Ledger>(
 ) -> Choice<'a>
     requires rising { AreRising (M.entries messages.now) }
     requires indexed { IndexesReady (M.entries messages.now) ready.now.groups }
-    requires sound { AreSound (marks_of locks.now actor) pick.now.queue.now pick.now.table.now (M.entries messages.now) }
-    ensures choice { (l : Look) → IsLookOf pick.now actor locks.now (M.entries messages.now) l → chosen l ≡ chosen_by result }
-    ensures slot { (l : Look) → IsLookOf pick.now actor locks.now (M.entries messages.now) l → IsSlotFor l result }
-    ensures steps { (l : Look) → IsLookOf pick.now actor locks.now (M.entries messages.now) l
-        → steps.new ≤ steps.old + 2 * (passed_over l.queue.name l.ask.consumer (is_wanted l) l.tables.messages + 1) }
+    requires sound { let messages = messages_of (M.entries messages.now) in
+        AreSound (marks_of locks.now actor) pick.now.queue.now pick.now.table.now messages }
+    ensures choice { (l : Look) → IsLookOf pick.now actor locks.now (messages_of (M.entries messages.now)) l
+        → chosen l ≡ chosen_by result }
+    ensures slot { (l : Look) → IsLookOf pick.now actor locks.now (messages_of (M.entries messages.now)) l
+        → IsSlotFor l result }
+    ensures steps { (l : Look) → IsLookOf pick.now actor locks.now (messages_of (M.entries messages.now)) l
+        → steps.new ≤ steps.old + most_steps l }
 {
     let asking = Asking { locks, actor, pick };
     choose_asked(messages, ready, &asking, steps)

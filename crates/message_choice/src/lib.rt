@@ -5,8 +5,10 @@ mod asking;
 mod choosing;
 mod search;
 mod stamped;
+mod tables;
 mod test;
 
 pub use asking::{Choice, Pick};
 pub use choosing::choose;
 pub use stamped::StampedMessages;
+pub use tables::ChoosesMessages;

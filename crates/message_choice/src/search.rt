@@ -21,7 +21,7 @@ fn hit_at<'a, M: StampedMessages>(
     filter: Filter,
     stamp: u64,
 ) -> Option<Hit<'a>>
-    requires { AreSoundFor asking.now (M.entries messages.now) }
+    requires { AreSoundFor asking.now (messages_of (M.entries messages.now)) }
     ensures message { message_of result ≡ kept_by (passes (look_of asking.now) filter) (message_at (M.entries messages.now) stamp) }
     ensures slot { IfSome result (λ hit. HasSlotFor (look_of asking.now) hit.message.now hit.slot) }
 {
