@@ -72,7 +72,7 @@ replaced_by t db next moment i s behind sessions false e r there same own =
 
 -- ---- the beginning
 
-fresh_empty : (scripts : List SessionScript) (i : ℕ) (s : Session) → slice_get (map fresh scripts) i ≡ Some s → (s.pending ≡ []) × (s.marks ≡ [])
+pub fresh_empty : (scripts : List SessionScript) (i : ℕ) (s : Session) → slice_get (map fresh scripts) i ≡ Some s → (s.pending ≡ []) × (s.marks ≡ [])
 fresh_empty [] i s e = absurd (none-some s e)
 fresh_empty (x ∷ xs) zero s e = let same : fresh x ≡ s = (let a : Some (fresh x) ≡ Some s = e in cc) in (ap (λ y. y.pending) (sym same), ap (λ y. y.marks) (sym same))
 fresh_empty (x ∷ xs) (suc i) s e = fresh_empty xs i s e
@@ -228,7 +228,7 @@ asked_by scripts i n statement (Some script) f a e =
     let ordered : list_all is_ordered script.statements ≡ true = all_at (λ x. list_all is_ordered x.statements) scripts i script a.ordered f in
     (all_at is_within script.statements n statement (and_parts (is_session_name script.name) (list_all is_within script.statements) within).1 e, all_at is_ordered script.statements n statement ordered e)
 
-asked : (w : World) (i : ℕ) (s : Session) (statement : Statement) → AreScripts w.scripts → next_statement w i s ≡ Some statement → (is_within statement ≡ true) × (is_ordered statement ≡ true)
+pub asked : (w : World) (i : ℕ) (s : Session) (statement : Statement) → AreScripts w.scripts → next_statement w i s ≡ Some statement → (is_within statement ≡ true) × (is_ordered statement ≡ true)
 asked w i s statement a e = asked_by w.scripts i s.next statement (slice_get w.scripts i) refl a e
 
 pub call_fits : (w new : World) (i : ℕ) (s : Session) (statement : Statement) (reply : Reply) (cs : List Change) (after : Session) → IsValidWorld w → Calls i s statement reply cs after w new → fits (database_at s.at w).tables (record { moment = w.moment; changes = cs }) ≡ true

@@ -1,0 +1,4 @@
+pub mod Commits
+pub mod Giving
+pub mod Lasting
+pub mod Making

@@ -1,0 +1,83 @@
+-- The laws of what a legal history commits, and of what becomes of each slot in it.
+use Rattle.std.specs.Prelude.{◌≡◌, ◌≤◌, ◌<◌, ◌==◌, ◌&&◌, ℕ, List, [], ◌∷◌, Bool, true, false, length, All, Some, slice_get}
+use Rattle.std.specs.List.{list_any}
+use Rattle.aq_base.specs.declared.DbId.{DbId}
+use Rattle.aq_base.specs.declared.DbId.TheVariants.{Home, Away}
+use Rattle.queue_rows.specs.Tables.{after}
+use Rattle.queue_rows.specs.Session.{Session, is_same_db}
+use Rattle.queue_rows.specs.Fits.{fits}
+use Rattle.queue_rows.specs.World.{World, database_at, opened}
+use Rattle.queue_rows.specs.Legal.{Calls, IsLegal, IsLegalBy, IsLegalHistory}
+use Rattle.queue_rows.specs.declared.tables.Tables.{Tables}
+use Rattle.queue_rows.specs.declared.change.Change.{Change}
+use Rattle.queue_rows.specs.declared.change.Commit.{Commit}
+use Rattle.queue_rows.specs.declared.history.History.{History}
+use Rattle.queue_rows.specs.declared.history.SessionScript.{SessionScript}
+use Rattle.queue_rows.specs.declared.reply.Reply.{Reply}
+use Rattle.queue_rows.specs.declared.statement.Statement.{Statement}
+use Rattle.valid_laws.specs.Touching.{are_proper}
+use Rattle.statement_laws.specs.Sessions.{is_addition_of}
+use Rattle.fate_laws.specs.Made.{commits_of, changes_of, after_commits, opening_of, tables_after}
+use Rattle.fate_laws.specs.Proper.{ids_put_in, AreProper}
+use Rattle.fate_laws.specs.Lasting.{HasFates}
+use Rattle.world_laws.specs.ValidWorld.{IsValidWorld}
+use Rattle.world_laws.specs.WorldLaws.{MayBegin}
+
+-- ---- what was made of a database
+
+abbrev pub opening_at : DbId → Tables → Tables → Tables
+opening_at Home home away = home
+opening_at Away home away = away
+
+-- what the entries so far change at the database
+abbrev pub changes_so_far : DbId → World → List Change
+changes_so_far db w = changes_of (commits_of db w.entries)
+
+-- each commit fits the tables that those before it leave
+abbrev pub all_fit : Tables → List Commit → Bool
+all_fit t [] = true
+all_fit t (c ∷ more) = fits t c && all_fit (after t c) more
+
+-- it is none that the opening had, and no message was put in with it
+pub record IsUnused (opening : Tables) (cs : List Change) (id : ℕ) : Type 0 where
+  pub later : opening.next ≤ id
+  pub new : All (λ a. (a == id) ≡ false) (ids_put_in cs)
+
+-- The database is what its commits made of the opening, in order; they are as many as were counted, and each fits. All that was changed
+-- is proper. Messages were put in with ids that the database gave, and what sessions have added and not committed has ids that were not used.
+pub record IsMade (opening : Tables) (db : DbId) (w : World) : Type 0 where
+  pub tables : (database_at db w).tables ≡ after_commits opening (commits_of db w.entries)
+  pub count : (database_at db w).made ≡ length (commits_of db w.entries)
+  pub fit : all_fit opening (commits_of db w.entries) ≡ true
+  pub proper : AreProper opening (changes_so_far db w)
+  pub first : opening.next ≤ (database_at db w).next
+  pub given : All (λ id. id < (database_at db w).next) (ids_put_in (changes_so_far db w))
+  pub held : (i : ℕ) (s : Session) → slice_get w.sessions i ≡ Some s → is_same_db s.at db ≡ true → (id : ℕ)
+      → list_any (is_addition_of id) s.pending ≡ true → IsUnused opening (changes_so_far db w) id
+
+-- ---- the laws
+
+-- what a call commits in a valid world is proper
+abbrev pub CallIsProper : Type 0
+CallIsProper = (w new : World) (i : ℕ) (s : Session) (statement : Statement) (reply : Reply) (cs : List Change) (after : Session) → IsValidWorld w
+    → Calls i s statement reply cs after w new → are_proper (database_at s.at w).tables cs ≡ true
+
+-- each database of a legal world is what its commits made of it
+abbrev pub LegalIsMade : Type 0
+LegalIsMade = (home away : Tables) (scripts : List SessionScript) (readings : List ℕ) (w : World) → MayBegin home away scripts
+    → IsLegal (opened home away scripts) readings w → (db : DbId) → IsMade (opening_at db home away) db w
+
+-- so each slot of each message of a legal history has one fate, which stays when it is final, and is removed at most once
+abbrev pub LegalHasFates : Type 0
+LegalHasFates = (home away : Tables) (scripts : List SessionScript) (h : History) → MayBegin home away scripts
+    → IsLegalHistory home away scripts h → (db : DbId) → HasFates db h
+
+-- each of its commits fits the tables that those before it leave
+abbrev pub LegalCommitsFit : Type 0
+LegalCommitsFit = (home away : Tables) (scripts : List SessionScript) (h : History) → MayBegin home away scripts
+    → IsLegalHistory home away scripts h → (db : DbId) → all_fit (opening_of db h) (commits_of db h.entries) ≡ true
+
+-- the tables that a legal history leads to are those that its commits leave, so what they say of a slot is its fate
+abbrev pub LegalEndsIn : Type 0
+LegalEndsIn = (home away : Tables) (scripts : List SessionScript) (readings : List ℕ) (h : History) → MayBegin home away scripts
+    → (legal : IsLegalBy readings home away scripts h) → (db : DbId) → (database_at db legal.end).tables ≡ tables_after db h
