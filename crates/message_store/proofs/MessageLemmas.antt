@@ -1,16 +1,23 @@
 -- The numbers of messages, and what is found by them.
-use Rattle.std.proofs.Common.{◌≡◌, ℕ, suc, ◌+◌, ◌≤◌, ◌==◌, List, [], ◌∷◌, ◌++◌, length, take, drop, Bool, cond, not, filter, Some, sym, ap, ◌∙◌, refl, arith}
-use Rattle.std.specs.Prelude.{count_by, position, remove, slice_get, slice_set}
+use Rattle.std.proofs.Common.{◌≡◌, ℕ, suc, ◌+◌, ◌<◌, ◌≤◌, ◌==◌, List, [], ◌∷◌, ◌++◌, length, length-append, take, drop, Bool, cond, not, filter, Option, Some, None, sym, ap, ◌∙◌, refl, subst, arith}
+use Rattle.std.specs.Prelude.{count_by, find, position, remove, slice_get, slice_set, IfSome}
+use Rattle.std.specs.Option.{option_map_or}
 use Rattle.std.specs.List.{prefix_len}
 use Rattle.std.proofs.Math.Seq.{map-set_same}
-use Rattle.std.proofs.lemmas.List.{length-map, map-append, take-map, drop-map}
+use Rattle.std.proofs.lemmas.Bool.{lt-ltb}
+use Rattle.std.proofs.lemmas.List.{length-map, length-take, length-drop, length-set, map-append, take-map, drop-map}
 use Rattle.std.proofs.lemmas.List.Folds.{fold-map}
 use Rattle.std.proofs.lemmas.List.Sums.{length-filter, count_by-le-length}
 use Rattle.std.proofs.lemmas.Option.{get_or_from_slice_get}
+use Rattle.queue_rows.specs.Rows.{set_some, changed_some, changed_nth, changed_at, changed_first}
+use Rattle.queue_rows.specs.Tables.{moved_to}
 use Rattle.queue_rows.specs.declared.rows.MsgRow.{MsgRow}
+use Rattle.row_tree.specs.Edits.{edit_at}
 use Rattle.message_store.specs.Indexed.{Indexed}
-use Rattle.message_store.specs.Messages.{ids_of, IsIndexed}
+use Rattle.message_store.specs.Messages.{ids_of, with_changed, KeepsId, IsIndexed}
+use Rattle.message_store.specs.Moves.{moved_within}
 use Rattle.message_store.specs.Rows.{Rows}
+use Rattle.message_store.proofs.FindLemmas.{find-at_position}
 
 others : (id : ℕ) (ms : List MsgRow) → prefix_len (λ i. not (i == id)) (ids_of ms) ≡ prefix_len (λ m. not (m.id == id)) ms
 others id [] = refl
@@ -46,10 +53,50 @@ pub room_for_kept : (rows : Rows MsgRow) (index : Indexed) (keep : MsgRow → Bo
 room_for_kept rows index keep room h enough =
     omega (arith, h.room, ap length h.ids, length-map rows.items (λ m. m.id), length-filter keep rows.items, count_by-le-length keep rows.items)
 
--- a message is replaced by one of its number: the index is still theirs
-pub indexed_set : (rows : Rows MsgRow) (index : Indexed) (i : ℕ) (before now : MsgRow) → IsIndexed rows index → slice_get rows.items i ≡ Some before → now.id ≡ before.id
-    → IsIndexed (record rows { items = slice_set rows.items i now }) index
-indexed_set rows index i before now h there same = record {
-  ids = h.ids ∙ sym (ids_set rows.items i before now there same);
-  room = h.room;
-}
+-- a change of the row at an index is the one of the definitions
+pub edit_is_changed : {T : Type 0} (rows : List T) (i : ℕ) (change : T → T) → edit_at rows i change ≡ changed_nth change i rows
+edit_is_changed {T} rows i change =
+    let P : Option T → Type 0 = λ o. option_map_or (λ row. slice_set rows i (change row)) o rows ≡ set_some rows i (changed_some change o) in
+    elim (slice_get rows i) as P [ None ↦ refl | Some row ↦ refl ]
+
+-- a message that keeps its number is changed: the index is still theirs
+pub ids_edited : (ms : List MsgRow) (i : ℕ) (change : MsgRow → MsgRow) → KeepsId change → ids_of (edit_at ms i change) ≡ ids_of ms
+ids_edited ms i change keeps = by (slice_get ms i) refl
+  where
+    by : (o : Option MsgRow) → slice_get ms i ≡ o → ids_of (option_map_or (λ row. slice_set ms i (change row)) o ms) ≡ ids_of ms
+    by None is = refl
+    by (Some m) is = ids_set ms i m (change m) is (keeps m)
+
+-- two changes that do the same to the first row of a kind
+pub changed_alike : {T : Type 0} (p : T → Bool) (f g : T → T) (rows : List T) → IfSome (find p rows) (λ row. f row ≡ g row)
+    → changed_first p f rows ≡ changed_first p g rows
+changed_alike {T} p f g rows same = by (position p rows) refl
+  where
+    one : (i : ℕ) (o : Option T) → IfSome o (λ row. f row ≡ g row) → set_some rows i (changed_some f o) ≡ set_some rows i (changed_some g o)
+    one i None e = refl
+    one i (Some row) e = ap (λ (r : T). slice_set rows i r) e
+
+    by : (o : Option ℕ) → position p rows ≡ o → changed_at f o rows ≡ changed_at g o rows
+    by None is = refl
+    by (Some i) is =
+        let Same : Option T → Type 0 = λ o. IfSome o (λ row. f row ≡ g row) in
+        one i (slice_get rows i) (subst Same (find-at_position p rows i is) same)
+
+pub length_edited : {T : Type 0} (rows : List T) (i : ℕ) (change : T → T) → length (edit_at rows i change) ≡ length rows
+length_edited {T} rows i change =
+    let P : Option T → Type 0 = λ o. length (option_map_or (λ row. slice_set rows i (change row)) o rows) ≡ length rows in
+    elim (slice_get rows i) as P [ None ↦ refl | Some row ↦ length-set rows i (change row) ]
+
+pub length_removed : {T : Type 0} (rows : List T) (i : ℕ) → length (remove rows i) ≤ length rows
+length_removed rows i = omega (arith, length-append (take i rows) (drop (suc i) rows), length-take i rows, length-drop (suc i) rows)
+
+enough : (room : ℕ) (queue : List ℕ) (at : ℕ) (o : Option MsgRow) → IfSome o (λ m. length m.slots < room) → IfSome o (λ m. moved_within room queue at m ≡ moved_to queue at m)
+enough room queue at None h = tt
+enough room queue at (Some m) h = rw (lt-ltb (length m.slots) room h) refl
+
+-- where there is memory for the slots of the first message that has a number, it is moved
+pub moved_first : (room : ℕ) (queue : List ℕ) (at id : ℕ) (rows : Rows MsgRow) → IfSome (find (λ m. m.id == id) rows.items) (λ m. length m.slots < room)
+    → with_changed id (moved_within room queue at) rows ≡ with_changed id (moved_to queue at) rows
+moved_first room queue at id rows h =
+    let change = changed_alike (λ (m : MsgRow). m.id == id) (moved_within room queue at) (moved_to queue at) rows.items (enough room queue at (find (λ m. m.id == id) rows.items) h) in
+    ap (λ ms. record rows { items = ms }) change

@@ -8,11 +8,9 @@ use Rattle.queue_rows.specs.Rows.{find_message}
 use Rattle.queue_rows.specs.Tables.{after_change}
 use Rattle.queue_rows.specs.declared.tables.Tables.{Tables}
 use Rattle.queue_rows.specs.declared.rows.MsgRow.{MsgRow}
-use Rattle.queue_rows.specs.declared.rows.SlotRow.{SlotRow}
 use Rattle.queue_rows.specs.declared.change.Change.{Change}
 use Rattle.queue_rows.specs.declared.change.Change.TheVariants as changes
 use Rattle.message_store.specs.Numbers.{HasNumbers}
-use Rattle.message_store.specs.Rows.{Rows}
 use Rattle.message_store.specs.Room.{Room, HasRoom, room_after}
 use Rattle.message_store.specs.Prepared.{slots_added, most_slots, HasSlotRoom, HasItsSlotRoom, AreReady, changes_of}
 use Rattle.message_store.specs.declared.prepared.Prepared.{Prepared}
@@ -26,13 +24,13 @@ fits t id at queue cs n None e h = tt
 fits t id at queue cs n (Some m) e h =
     omega (arith, found_slots id t.messages m e, sum_by-cons (slots_added id) (changes.Moved id queue at) cs, ap one_if (eq-eqb id id refl), h)
 
-its_room : (t : Tables) (c : Change) (cs : List Change) (slots : Rows SlotRow) → HasSlotRoom t.messages (c ∷ cs) c slots → HasItsSlotRoom t c slots
-its_room t (changes.Moved id queue at) cs slots h = (h.0, fits t id at queue cs slots.room (find_message t id) refl h.1)
+its_room : (t : Tables) (c : Change) (cs : List Change) (slots : ℕ) → HasSlotRoom t.messages (c ∷ cs) c slots → HasItsSlotRoom t c slots
+its_room t (changes.Moved id queue at) cs slots h = fits t id at queue cs slots (find_message t id) refl h
 its_room t _ cs slots h = tt
 
-later_room : (t : Tables) (c : Change) (cs : List Change) (d : Change) (slots : Rows SlotRow) → HasSlotRoom t.messages (c ∷ cs) d slots
+later_room : (t : Tables) (c : Change) (cs : List Change) (d : Change) (slots : ℕ) → HasSlotRoom t.messages (c ∷ cs) d slots
     → HasSlotRoom (after_change t c).messages cs d slots
-later_room t c cs (changes.Moved id queue at) slots h = (h.0, omega (arith, slots_after id t c, sum_by-cons (slots_added id) c cs, h.1))
+later_room t c cs (changes.Moved id queue at) slots h = omega (arith, slots_after id t c, sum_by-cons (slots_added id) c cs, h)
 later_room t c cs _ slots h = tt
 
 pub are_ready : (t : Tables) (r : Room) (ps : List Prepared) → All HasNumbers (changes_of ps) → HasRoom r (changes_of ps)

@@ -6,5 +6,6 @@ pub mod Messages
 pub mod Lowered
 pub mod Room
 pub mod Puts
+pub mod Moves
 pub mod Open
 pub mod Prepared

@@ -4,11 +4,9 @@ use Rattle.queue_rows.specs.Rows.{find_message}
 use Rattle.queue_rows.specs.Tables.{after_change}
 use Rattle.queue_rows.specs.declared.tables.Tables.{Tables}
 use Rattle.queue_rows.specs.declared.rows.MsgRow.{MsgRow}
-use Rattle.queue_rows.specs.declared.rows.SlotRow.{SlotRow}
 use Rattle.queue_rows.specs.declared.change.Change.{Change}
 use Rattle.queue_rows.specs.declared.change.Change.TheVariants as changes
 use Rattle.message_store.specs.Numbers.{HasNumbers}
-use Rattle.message_store.specs.Rows.{Rows}
 use Rattle.message_store.specs.Room.{Room, HasPlace, room_after}
 use Rattle.message_store.specs.declared.prepared.Prepared.{Prepared}
 
@@ -44,15 +42,13 @@ abbrev pub most_slots : ℕ → List MsgRow → List Change → ℕ
 most_slots id messages cs = slots_of id messages + sum_by (slots_added id) cs
 
 -- there is memory for the slots of a message that is moved, and for slot 0 behind them
-abbrev pub HasSlotRoom : List MsgRow → List Change → Change → Rows SlotRow → Type 0
-HasSlotRoom messages cs (changes.Moved id queue at) slots =
-    (slots.items ≡ []) × (most_slots id messages cs ≤ slots.room)
+abbrev pub HasSlotRoom : List MsgRow → List Change → Change → ℕ → Type 0
+HasSlotRoom messages cs (changes.Moved id queue at) slots = most_slots id messages cs ≤ slots
 HasSlotRoom messages cs _ slots = Unit {0}
 
 -- there is memory for the slots of the message that this change moves
-abbrev pub HasItsSlotRoom : Tables → Change → Rows SlotRow → Type 0
-HasItsSlotRoom t (changes.Moved id queue at) slots =
-    (slots.items ≡ []) × IfSome (find_message t id) (λ m. length m.slots < slots.room)
+abbrev pub HasItsSlotRoom : Tables → Change → ℕ → Type 0
+HasItsSlotRoom t (changes.Moved id queue at) slots = IfSome (find_message t id) (λ m. length m.slots < slots)
 HasItsSlotRoom t _ slots = Unit {0}
 
 -- the change can be made in these tables without memory

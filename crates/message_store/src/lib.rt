@@ -4,6 +4,7 @@
 mod added_slots;
 mod apply;
 mod copies;
+mod edits;
 mod enqueued;
 mod message_index;
 mod open;

@@ -6,7 +6,8 @@ ghost use Rattle.message_store.specs.Open.{held};
 use crate::message_index::MessageIndex;
 use crate::open_messages::OpenMessages;
 use crate::open_rows::OpenRows;
-use queue_rows::{QueueRow, ScheduleRow, SeenRow, SubRow, TableRow, Tables};
+use queue_rows::{MsgRow, QueueRow, ScheduleRow, SeenRow, SubRow, TableRow, Tables};
+use row_tree::Stock;
 
 /// What a database holds, with memory for more rows of each kind.
 #[derive(Drop)]
@@ -32,8 +33,8 @@ pub(crate) struct OpenTables {
 }
 
 impl OpenTables {
-    /// The tables, opened, with the index of their messages. It takes no memory.
-    pub(crate) fn of(tables: Tables, index: MessageIndex) -> OpenTables
+    /// The tables, opened, with the index of their messages and places for more. It takes no memory.
+    pub(crate) fn of(tables: Tables, index: MessageIndex, places: Stock<MsgRow>) -> OpenTables
         requires { index.ids ≡ ids_of tables.messages }
         ensures { held result ≡ tables }
     {
@@ -42,7 +43,7 @@ impl OpenTables {
             queues: OpenRows::of(tables.queues),
             subs: OpenRows::of(tables.subs),
             schedules: OpenRows::of(tables.schedules),
-            messages: OpenMessages::of(tables.messages, index),
+            messages: OpenMessages::of(tables.messages, index, places),
             seen: OpenRows::of(tables.seen),
             next: tables.next,
             transaction: tables.transaction,
@@ -50,12 +51,12 @@ impl OpenTables {
         }
     }
 
-    /// The tables, closed again, and the index of their messages. It takes no memory.
-    pub(crate) fn close(self) -> (Tables, MessageIndex)
+    /// The tables, closed again, the index of their messages and the places that are left. It takes no memory.
+    pub(crate) fn close(self) -> (Tables, MessageIndex, Stock<MsgRow>)
         ensures tables { result.0 ≡ held self }
         ensures index { result.1.ids ≡ ids_of result.0.messages }
     {
-        let (messages, index) = self.messages.close();
+        let (messages, index, places) = self.messages.close();
         let tables = Tables {
             tables: self.tables.into_list(),
             queues: self.queues.into_list(),
@@ -67,6 +68,6 @@ impl OpenTables {
             transaction: self.transaction,
             latest: self.latest,
         };
-        (tables, index)
+        (tables, index, places)
     }
 }

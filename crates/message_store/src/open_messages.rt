@@ -1,17 +1,17 @@
 // The messages of a database, while a commit is made.
-ghost use Rattle.std.specs.Prelude.{◌≡◌, ◌==◌, ◌+◌, ◌-◌, ◌<◌, ◌≤◌, [], ◌∷◌, ◌++◌, IfSome, IsTrue, OnOk, OnErr, count_by, filter, find, length, not, option_copied, position};
+ghost use Rattle.std.specs.Prelude.{◌≡◌, ◌==◌, ◌+◌, ◌-◌, ◌<◌, ◌≤◌, [], ◌∷◌, ◌++◌, IfSome, IsTrue, OnOk, OnErr, count_by, filter, find, length, not, option_copied, position, remove};
 ghost use Rattle.std.specs.Str.{bytes_eq};
 ghost use Rattle.queue_rows.specs.Rows.{with_slot};
 ghost use Rattle.queue_rows.specs.Tables.{in_state, moved_to, retried};
-ghost use Rattle.message_store.specs.Messages.{ids_of, with_changed};
+ghost use Rattle.message_store.specs.Messages.{ids_of, with_changed, KeepsId};
 ghost use Rattle.message_store.specs.Rows.{filtered, without_first};
 
+use crate::edits::{MoveTo, Retry, SetState};
 use crate::message_index::MessageIndex;
-use crate::open_rows::OpenRows;
-use crate::rows::remove_of_queue;
-use crate::slots::move_to;
-use payload_records::{List, Name};
-use queue_rows::{MsgRow, SlotRow, SlotState};
+use crate::slots::SlotRoom;
+use payload_records::Name;
+use queue_rows::{MsgRow, SlotState};
+use row_tree::{Edit, Stock, Tree};
 use std::alloc::AllocError;
 use std::marker::Model;
 
@@ -19,23 +19,30 @@ use std::marker::Model;
 /// that count.
 #[derive(Drop)]
 pub(crate) struct OpenMessages {
-    rows: OpenRows<MsgRow>,
+    rows: Tree<MsgRow>,
     index: MessageIndex,
+    places: Stock<MsgRow>,
+    room: usize,
 }
 
 impl Model for OpenMessages {
+    ghost use Rattle.std.specs.Prelude.{◌+◌, ◌≤◌, length};
     ghost use Rattle.queue_rows.specs.declared.rows.MsgRow.{MsgRow};
     ghost use Rattle.message_store.specs.Messages.{IsIndexed};
     ghost use Rattle.message_store.specs.Rows.{Rows};
 
     ghost Value = { Rows MsgRow };
 
-    ghost view = { λ m. m.rows };
+    ghost view = { λ m. record { items = m.rows; room = m.room } };
 
-    ghost invariant = { λ m. IsIndexed m.rows m.index };
+    ghost use Rattle.std.below.core.specs.declared.int.usize.TheConstants.{MAX};
+
+    ghost invariant = { λ m.
+        IsIndexed (record { items = m.rows; room = m.room }) m.index
+        × (m.room ≤ m.places) × (length m.rows + m.room ≤ MAX) };
 }
 
-fn note_all(index: &mut MessageIndex, rows: &[MsgRow])
+fn note_all(index: &mut MessageIndex, rows: &Tree<MsgRow>)
     requires { length rows.now ≤ index.old.room }
     ensures ids { index.new.ids ≡ index.old.ids ++ ids_of rows.now }
     ensures room { index.old.room ≤ index.new.room + length rows.now }
@@ -45,32 +52,47 @@ fn note_all(index: &mut MessageIndex, rows: &[MsgRow])
     }
 }
 
+fn keep_others(rows: &mut Tree<MsgRow>, queue: &Name)
+    ensures { rows.new ≡ filter (λ m. not (bytes_eq m.queue queue.now)) rows.old }
+{
+    rows.retain(|message| message.queue != *queue);
+}
+
+fn take_out(rows: &mut Tree<MsgRow>, at: usize)
+    requires { at < length rows.old }
+    ensures { rows.new ≡ remove rows.old at }
+{
+    let _removed = rows.remove(at);
+}
+
 impl OpenMessages {
-    /// The messages of a list, with their index. It takes no memory.
-    pub(crate) fn of(rows: List<MsgRow>, index: MessageIndex) -> OpenMessages
+    /// The messages of tables, with their index and places for more. It takes no memory.
+    pub(crate) fn of(rows: Tree<MsgRow>, index: MessageIndex, places: Stock<MsgRow>) -> OpenMessages
         requires { index.ids ≡ ids_of rows }
         ensures { result ≡ record { items = rows; room = 0 } }
     {
+        let _most = rows.len();
         OpenMessages {
-            rows: OpenRows::of(rows),
+            rows,
             index,
+            places,
+            room: 0,
         }
     }
 
-    /// The messages as a list, and their index. It takes no memory.
-    pub(crate) fn close(self) -> (List<MsgRow>, MessageIndex)
+    /// The messages, their index and the places that are left. It takes no memory.
+    pub(crate) fn close(self) -> (Tree<MsgRow>, MessageIndex, Stock<MsgRow>)
         ensures rows { result.0 ≡ self.items }
         ensures index { result.1.ids ≡ ids_of self.items }
     {
-        let OpenMessages { rows, index } = self;
-        (rows.into_list(), index)
+        (self.rows, self.index, self.places)
     }
 
     /// The messages.
-    pub(crate) fn as_slice(&self) -> &[MsgRow]
+    pub(crate) fn rows(&self) -> &Tree<MsgRow>
         ensures { result.now ≡ self.now.items }
     {
-        self.rows.as_slice()
+        &self.rows
     }
 
     /// Where the first message of that number stands. It does not go over the messages.
@@ -101,8 +123,13 @@ impl OpenMessages {
         ensures ok { OnOk result (self.new ≡ record self.old { room = room }) }
         ensures err { OnErr result (self.new ≡ self.old) }
     {
-        self.index.reserve(room.max(self.rows.room()))?;
-        self.rows.reserve(room)
+        if self.rows.len().checked_add(room).is_none() {
+            return Err(AllocError);
+        }
+        self.index.reserve(room.max(self.room))?;
+        self.places.reserve(room)?;
+        self.room = room;
+        Ok(())
     }
 
     /// Puts a message last. It takes no memory.
@@ -111,7 +138,8 @@ impl OpenMessages {
         ensures { self.new ≡ record { items = self.old.items ++ row ∷ []; room = self.old.room - 1 } }
     {
         self.index.push(row.id);
-        self.rows.push(row);
+        self.room -= 1;
+        self.rows.push(row, self.places.take());
     }
 
     /// Takes the first message of that number out, if there is one. It takes no memory.
@@ -120,7 +148,7 @@ impl OpenMessages {
     {
         if let Some(at) = self.position(id) {
             self.index.remove(at);
-            self.rows.remove(at);
+            take_out(&mut self.rows, at);
         }
     }
 
@@ -128,22 +156,26 @@ impl OpenMessages {
     pub(crate) fn remove_of_queue(&mut self, queue: &Name)
         ensures { self.new ≡ filtered (λ m. not (bytes_eq m.queue queue.now)) self.old }
     {
-        remove_of_queue(&mut self.rows, queue);
+        keep_others(&mut self.rows, queue);
         self.index.clear();
-        note_all(&mut self.index, self.rows.as_slice());
+        note_all(&mut self.index, &self.rows);
+    }
+
+    // The first message of that number is changed, and keeps its number.
+    fn edit<E: Edit<MsgRow> + Drop>(&mut self, id: u64, edit: E)
+        requires { KeepsId (E.edited edit) }
+        ensures { self.new ≡ with_changed id (E.edited edit) self.old }
+    {
+        if let Some(at) = self.position(id) {
+            self.rows.edit(at, edit);
+        }
     }
 
     /// The slot of the first message of that number is in that state from a moment on. It takes no memory.
     pub(crate) fn set_state(&mut self, id: u64, slot: u64, state: SlotState, at: u64)
         ensures { self.new ≡ with_changed id (with_slot slot (in_state state at)) self.old }
     {
-        let Some(place) = self.position(id) else {
-            return;
-        };
-        let Some(message) = self.rows.get_mut(place) else {
-            return;
-        };
-        message.set_slot_state(slot, state, at);
+        self.edit(id, SetState { slot, state, at });
     }
 
     /// The slot of the first message of that number was rolled back so often; it waits, or is ready at once. It
@@ -158,28 +190,23 @@ impl OpenMessages {
     )
         ensures { self.new ≡ with_changed id (with_slot slot (retried retries until at)) self.old }
     {
-        let Some(place) = self.position(id) else {
-            return;
-        };
-        let Some(message) = self.rows.get_mut(place) else {
-            return;
-        };
-        message.retry_slot(slot, retries, until, at);
+        self.edit(
+            id,
+            Retry {
+                slot,
+                retries,
+                until,
+                at,
+            },
+        );
     }
 
     /// The first message of that number stands in that queue, if there is one, with slot 0 behind its slots. It
     /// takes no memory.
-    pub(crate) fn move_to(&mut self, id: u64, queue: Name, at: u64, slots: OpenRows<SlotRow>)
-        requires empty { slots.items ≡ [] }
-        requires room { IfSome (find (λ m. m.id == id) self.old.items) (λ m. length m.slots < slots.room) }
+    pub(crate) fn move_to(&mut self, id: u64, queue: Name, at: u64, room: SlotRoom)
+        requires { IfSome (find (λ m. m.id == id) self.old.items) (λ m. length m.slots < room) }
         ensures { self.new ≡ with_changed id (moved_to queue at) self.old }
     {
-        let Some(place) = self.position(id) else {
-            return;
-        };
-        let Some(message) = self.rows.get_mut(place) else {
-            return;
-        };
-        move_to(message, queue, at, slots);
+        self.edit(id, MoveTo { queue, at, room });
     }
 }

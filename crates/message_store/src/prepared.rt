@@ -1,5 +1,5 @@
 // Changes for which memory is taken ahead.
-ghost use Rattle.std.specs.Prelude.{◌≡◌, ◌==◌, ◌+◌, [], All, IfOk, find, length, nat_eq, if◌then◌else◌};
+ghost use Rattle.std.specs.Prelude.{◌≡◌, ◌==◌, ◌+◌, All, IfOk, find, length, nat_eq, if◌then◌else◌};
 ghost use Rattle.std.specs.HashMap.{get};
 ghost use Rattle.std.specs.Option.{option_map_or};
 ghost use Rattle.message_store.specs.Prepared.{slots_of, HasSlotRoom, TellsAdded, changes_of};
@@ -7,9 +7,10 @@ ghost use Rattle.message_store.specs.Prepared.{slots_of, HasSlotRoom, TellsAdded
 use crate::added_slots::{AddedSlots, added_slots, added_to, total};
 use crate::copies::copy_of;
 use crate::open_messages::OpenMessages;
-use crate::open_rows::OpenRows;
+use crate::slots::SlotRoom;
 use payload_records::List;
-use queue_rows::{Change, MsgRow, SlotRow};
+use queue_rows::{Change, MsgRow};
+use row_tree::Tree;
 use std::alloc::{AllocError, Global};
 
 /// A change that is to be made, with memory for the slots of the message that it moves.
@@ -17,8 +18,8 @@ use std::alloc::{AllocError, Global};
 pub(crate) struct Prepared {
     /// The change.
     pub(crate) change: Change,
-    /// Of a change that moves a message, no slots, with memory for those that it will have.
-    pub(crate) slots: OpenRows<SlotRow>,
+    /// Of a change that moves a message, memory for the slots that it will have.
+    pub(crate) slots: SlotRoom,
 }
 
 fn slots_if(message: &MsgRow, id: u64) -> usize
@@ -31,7 +32,7 @@ fn slots_if(message: &MsgRow, id: u64) -> usize
     }
 }
 
-fn slots_of_all(messages: &[MsgRow], id: u64) -> Result<usize, AllocError>
+fn slots_of_all(messages: &Tree<MsgRow>, id: u64) -> Result<usize, AllocError>
     ensures { IfOk result (λ n. n ≡ slots_of id messages.now) }
 {
     let mut slots = 0;
@@ -56,7 +57,7 @@ fn slots_of(messages: &OpenMessages, id: u64) -> Result<usize, AllocError>
     if messages.is_alone(id) {
         Ok(slots_of_first(messages, id))
     } else {
-        slots_of_all(messages.as_slice(), id)
+        slots_of_all(messages.rows(), id)
     }
 }
 
@@ -65,14 +66,11 @@ fn room_for_slots(
     messages: &OpenMessages,
     added: usize,
     id: u64,
-) -> Result<OpenRows<SlotRow>, AllocError>
-    ensures none { IfOk result (λ slots. slots.items ≡ []) }
-    ensures room { IfOk result (λ slots. slots.room ≡ slots_of id messages.now.items + added) }
+) -> Result<SlotRoom, AllocError>
+    ensures { IfOk result (λ slots. slots ≡ slots_of id messages.now.items + added) }
 {
     let most = total(slots_of(messages, id)?, added)?;
-    let mut slots = OpenRows::new(alloc);
-    slots.reserve(most)?;
-    Ok(slots)
+    SlotRoom::new(alloc, most)
 }
 
 fn slots_for(
@@ -80,14 +78,14 @@ fn slots_for(
     changes: &List<Change>,
     added: &AddedSlots,
     change: &Change,
-) -> Result<OpenRows<SlotRow>, AllocError>
+) -> Result<SlotRoom, AllocError>
     requires { TellsAdded (get nat_eq added.now) changes.now change.now }
     ensures { IfOk result (HasSlotRoom messages.now.items changes.now change.now) }
 {
     let alloc = changes.allocator();
     match change {
         Change::Moved { id, .. } => room_for_slots(alloc, messages, added_to(added, *id), *id),
-        _ => Ok(OpenRows::new(alloc)),
+        _ => Ok(SlotRoom::none(alloc)),
     }
 }
 

@@ -6,7 +6,7 @@ ghost use Rattle.message_store.specs.Rows.{filtered, without_first};
 
 use crate::open_rows::OpenRows;
 use payload_records::Name;
-use queue_rows::{MsgRow, QueueRow, ScheduleRow, SubRow, TableRow};
+use queue_rows::{QueueRow, ScheduleRow, SubRow, TableRow};
 
 /// A row that is told from its like by a name, or by two.
 pub(crate) trait Keyed {
@@ -219,14 +219,6 @@ impl Queued for SubRow {
 }
 
 impl Queued for ScheduleRow {
-    ghost queue_of = { λ r. r.queue };
-
-    fn queue(&self) -> &Name {
-        &self.queue
-    }
-}
-
-impl Queued for MsgRow {
     ghost queue_of = { λ r. r.queue };
 
     fn queue(&self) -> &Name {

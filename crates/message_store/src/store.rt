@@ -12,6 +12,7 @@ use crate::prepared::Prepared;
 use exception_queues::MessageTables;
 use payload_records::List;
 use queue_rows::{Change, MsgRow, Tables};
+use row_tree::Stock;
 use std::alloc::{AllocError, Global};
 use std::marker::Model;
 use std::mem;
@@ -22,6 +23,8 @@ use std::mem;
 pub struct Store {
     tables: Tables,
     index: MessageIndex,
+    // What an earlier commit left.
+    places: Stock<MsgRow>,
     // Empty, with the memory of the largest commit so far, so that a commit needs no list of its own.
     spare: Vec<Prepared>,
 }
@@ -51,6 +54,7 @@ impl Store {
         Store {
             tables: Tables::new(alloc),
             index: MessageIndex::new(alloc),
+            places: Stock::new(alloc),
             spare: Vec::new(alloc),
         }
     }
@@ -83,12 +87,14 @@ impl Store {
         let alloc = changes.allocator();
         let tables = mem::replace(&mut self.tables, Tables::new(alloc));
         let index = mem::replace(&mut self.index, MessageIndex::new(alloc));
+        let places = mem::replace(&mut self.places, Stock::new(alloc));
         let spare = mem::replace(&mut self.spare, Vec::new(alloc));
-        let mut open = OpenTables::of(tables, index);
+        let mut open = OpenTables::of(tables, index, places);
         let outcome = commit(&mut open, changes, moment, spare);
-        let (tables, index) = open.close();
+        let (tables, index, places) = open.close();
         self.tables = tables;
         self.index = index;
+        self.places = places;
         self.spare = outcome?;
         Ok(())
     }

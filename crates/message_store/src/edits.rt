@@ -1,0 +1,88 @@
+// Changes of one message.
+ghost use Rattle.std.specs.Prelude.{◌≡◌, ◌<◌, length};
+ghost use Rattle.queue_rows.specs.Rows.{with_slot};
+ghost use Rattle.queue_rows.specs.Tables.{in_state, moved_to, retried};
+ghost use Rattle.message_store.specs.Moves.{moved_within};
+
+use crate::slots::SlotRoom;
+use payload_records::Name;
+use queue_rows::{MsgRow, SlotState};
+use row_tree::Edit;
+
+/// A slot is in that state from a moment on.
+#[derive(Drop)]
+pub(crate) struct SetState {
+    /// The slot.
+    pub(crate) slot: u64,
+    /// Its state.
+    pub(crate) state: SlotState,
+    /// The moment.
+    pub(crate) at: u64,
+}
+
+/// A removal of a slot was rolled back: it waits, or is ready at once.
+#[derive(Drop)]
+pub(crate) struct Retry {
+    /// The slot.
+    pub(crate) slot: u64,
+    /// How many removals were rolled back by now.
+    pub(crate) retries: u64,
+    /// Until when it waits.
+    pub(crate) until: Option<u64>,
+    /// The moment of the rollback.
+    pub(crate) at: u64,
+}
+
+/// The message stands in another queue, with slot 0 behind its slots, where the memory is enough for those.
+#[derive(Drop)]
+pub(crate) struct MoveTo {
+    /// The queue.
+    pub(crate) queue: Name,
+    /// The moment.
+    pub(crate) at: u64,
+    /// The memory.
+    pub(crate) room: SlotRoom,
+}
+
+impl Edit<MsgRow> for SetState {
+    ghost edited = { λ e message. with_slot e.slot (in_state e.state e.at) message };
+
+    fn edit(self, row: MsgRow) -> MsgRow {
+        let mut row = row;
+        row.set_slot_state(self.slot, self.state, self.at);
+        row
+    }
+}
+
+impl Edit<MsgRow> for Retry {
+    ghost edited = { λ e message. with_slot e.slot (retried e.retries e.until e.at) message };
+
+    fn edit(self, row: MsgRow) -> MsgRow {
+        let mut row = row;
+        row.retry_slot(self.slot, self.retries, self.until, self.at);
+        row
+    }
+}
+
+impl Edit<MsgRow> for MoveTo {
+    ghost edited = { λ e message. moved_within e.room e.queue e.at message };
+
+    fn edit(self, row: MsgRow) -> MsgRow {
+        let mut row = row;
+        let MoveTo { queue, at, room } = self;
+        if row.slots.len() < room.len() {
+            move_to(&mut row, queue, at, room);
+        }
+        row
+    }
+}
+
+fn move_to(message: &mut MsgRow, queue: Name, at: u64, room: SlotRoom)
+    requires { length message.old.slots < room }
+    ensures { message.new ≡ moved_to queue at message.old }
+{
+    let zero = message.slot_zero(at);
+    message.queue = queue;
+    message.moved = true;
+    room.push_behind(&mut message.slots, zero);
+}
