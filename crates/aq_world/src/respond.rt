@@ -22,7 +22,7 @@ use crate::call_effect::{CallEffect, Holdings, NewPositions};
 use crate::run_database::RunDatabase;
 use crate::run_session::RunSession;
 use dequeue_ops::dequeue_plain;
-use enqueue_ops::enqueue;
+use enqueue_ops::enqueue_plain;
 use payload_records::{List, Name};
 use queue_rows::{Admin, Dequeue, Enqueue, Reply, Statement};
 use row_locks::RowLocks;
@@ -127,7 +127,7 @@ fn enqueue_call(alloc: Global, caller: Caller<'_>, ask: &Enqueue) -> Result<Call
     ensures later { IfOk result IsLater }
     ensures unmarked { IfOk result (λ d. mark_of d.holdings ≡ None) }
 {
-    let effect = enqueue(
+    let effect = enqueue_plain(
         alloc,
         caller.database.store(),
         caller.session.state(),

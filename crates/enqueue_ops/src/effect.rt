@@ -142,7 +142,7 @@ fn read_and_add(
 
 /// What an enqueue of a session does, where `next` is the id that its message would get.
 #[tactic(auto, unfolding(queue_rows::specs::Enqueueing::enqueue))]
-pub fn enqueue(
+pub fn enqueue_plain(
     alloc: Global,
     store: &Store,
     session: &SessionState,

@@ -4,4 +4,4 @@
 mod addition;
 mod effect;
 
-pub use effect::enqueue;
+pub use effect::enqueue_plain;

@@ -4,7 +4,7 @@ use Rattle.std.specs.Str.{bytes_eq}
 use Rattle.sessions.specs.Within.{IsPlainTable}
 use Rattle.sessions.proofs.Each.{found_each}
 use Rattle.enqueue_ops.proofs.Adding.{of_some}
-use Rattle.enqueue_ops.proofs.effect.enqueue.Goals as goal
+use Rattle.enqueue_ops.proofs.effect.enqueue_plain.Goals as goal
 
 pub read_and_add-requires-clause-table : goal.read_and_add-requires-clause-table
 read_and_add-requires-clause-table c =
