@@ -32,7 +32,8 @@ fn column_value(priority: i64, moment: u64, column: Column) -> i64
     }
 }
 
-fn column_values(
+/// What a message has in the columns of a sort list until its commit, whose moment is not known yet: its own stands for it.
+pub(crate) fn column_values(
     alloc: Global,
     sort: &SortList,
     priority: i64,

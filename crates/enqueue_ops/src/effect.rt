@@ -15,7 +15,7 @@ use queue_rows::{Enqueue, LimitName, MsgId, MsgRow, Pending, Reply, TableRow, Vi
 use sessions::{Effect, SessionState, Verdict, changes_of};
 use std::alloc::{AllocError, Global};
 
-fn refused(alloc: Global, reply: Reply) -> Effect
+pub(crate) fn refused(alloc: Global, reply: Reply) -> Effect
     requires { ids_taken reply ≡ 0 }
     ensures means { IsRefusal reply result }
     ensures answered { IsAnswered result.verdict }
@@ -28,7 +28,7 @@ fn refused(alloc: Global, reply: Reply) -> Effect
     Effect::answered(alloc, reply)
 }
 
-fn alone(alloc: Global, pending: Pending) -> Result<List<Pending>, AllocError>
+pub(crate) fn alone(alloc: Global, pending: Pending) -> Result<List<Pending>, AllocError>
     ensures { IfOk result (λ list. list ≡ pending ∷ []) }
 {
     let mut list = Vec::with_capacity(alloc, 1)?;

@@ -2,6 +2,10 @@
 #![tactic(auto)]
 
 mod addition;
+mod answer;
 mod effect;
+mod message;
+mod relative;
 
+pub use answer::enqueue;
 pub use effect::enqueue_plain;
