@@ -37,10 +37,10 @@ or_between false true false d = refl
 or_between false false true d = refl
 or_between false false false d = refl
 
-other_number : (h actor : ℕ) → not (h == actor) ≡ true → h ≢ actor
+pub other_number : (h actor : ℕ) → not (h == actor) ≡ true → h ≢ actor
 other_number h actor e same = both_ways (h == actor) (not-true (h == actor) e) (eq-eqb h actor same)
 
-not_equal : (h actor : ℕ) → h ≢ actor → not (h == actor) ≡ true
+pub not_equal : (h actor : ℕ) → h ≢ actor → not (h == actor) ≡ true
 not_equal h actor ne = not_from_false (h == actor) (ne_eqb h actor ne)
 
 -- ---- a test of items and their numbers
@@ -142,7 +142,7 @@ group_by group mark = by mark.group refl
 abbrev pub has_either : ℕ → ℕ → Option Group → List Mark → Bool
 has_either id slot group marks = has_slot id slot marks || has_any_group group marks
 
-group_any : (group : Option Group) (marks : List Mark) → list_any (marks_group group) marks ≡ has_any_group group marks
+pub group_any : (group : Option Group) (marks : List Mark) → list_any (marks_group group) marks ≡ has_any_group group marks
 group_any None marks = list_any-none marks
 group_any (Some group) marks = list_any-same (marks_group (Some group)) (is_in_group group) marks (group_by group)
 
@@ -162,11 +162,11 @@ pub record OtherHolder (locks : List SessionMarks) (actor id slot : ℕ) (group 
   pub other : number ≢ actor
   pub has : has_either id slot group (marks_of locks number) ≡ true
 
-same_db : (db : DbId) → is_same_db db db ≡ true
+pub same_db : (db : DbId) → is_same_db db db ≡ true
 same_db Home = refl
 same_db Away = refl
 
-db_same : (a b : DbId) → is_same_db a b ≡ true → a ≡ b
+pub db_same : (a b : DbId) → is_same_db a b ≡ true → a ≡ b
 db_same Home Home e = refl
 db_same Home Away e = absurd (false≢true e)
 db_same Away Home e = absurd (false≢true e)
@@ -260,7 +260,7 @@ has_of locks id slot group holder (inr (free, has)) = or_right (has_slot id slot
 abbrev pub OwnsGroup : List Mark → ℕ → ℕ → Option Group → Type 0
 OwnsGroup marks id slot group = has_slot id slot marks ≡ true → IfSome group (λ g. has_group g marks ≡ true)
 
-no_other : (locks : List SessionMarks) (actor id slot : ℕ) (group : Option Group) → AreHeldOnce locks → OwnsGroup (marks_of locks actor) id slot group → IsHolder locks id slot group actor
+pub no_other : (locks : List SessionMarks) (actor id slot : ℕ) (group : Option Group) → AreHeldOnce locks → OwnsGroup (marks_of locks actor) id slot group → IsHolder locks id slot group actor
     → OtherHolder locks actor id slot group → ⊥
 no_other locks actor id slot group once owns holder r =
     elim (or_cases (has_slot id slot (marks_of locks r.number)) (has_any_group group (marks_of locks r.number)) r.has) [

@@ -1,4 +1,6 @@
 pub mod Asking
+pub mod Claimed
 pub mod Indexed
 pub mod Searched
+pub mod Sound
 pub mod Wanted

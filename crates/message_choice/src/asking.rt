@@ -41,6 +41,22 @@ pub enum Choice<'a> {
     Nothing,
 }
 
+/// What a dequeue comes to that names a message.
+#[derive(Clone, Copy)]
+pub enum Claim {
+    /// The slot of that number is given.
+    Given {
+        /// The number.
+        slot: u32,
+    },
+    /// Another session, of that number, holds it.
+    Held(u32),
+    /// It is not for the consumer.
+    NotARecipient,
+    /// There is none of that id to be given.
+    NoSuchMessage,
+}
+
 /// What is asked for, by the session of that number, beside the marks of all.
 #[derive(Clone, Copy)]
 pub(crate) struct Asking<'a> {

@@ -3,12 +3,18 @@
 
 mod asking;
 mod choosing;
+mod claims;
+mod consumers;
 mod search;
 mod stamped;
 mod tables;
 mod test;
+mod waiting;
 
-pub use asking::{Choice, Pick};
+pub use asking::{Choice, Claim, Pick};
 pub use choosing::choose;
+pub use claims::claim;
+pub use consumers::{has_needless_consumer, lacks_consumer};
 pub use stamped::StampedMessages;
 pub use tables::ChoosesMessages;
+pub use waiting::still_waits;

@@ -37,7 +37,7 @@ fn local_slot(consumer: &Name, message: &MsgRow) -> Option<u32>
 }
 
 // The slot that a consumer may take of a message.
-fn slot_for(queue: &QueueRow, consumer: Option<&Name>, message: &MsgRow) -> Option<u32>
+pub(crate) fn slot_for(queue: &QueueRow, consumer: Option<&Name>, message: &MsgRow) -> Option<u32>
     requires { length message.now.slots < 2 ^ 32 }
     ensures { result ≡ slot_for queue.now (option_copied consumer.entry) message.now }
 {
@@ -65,7 +65,7 @@ fn consumer_of(message: &MsgRow, slot: u32) -> Option<&Name>
 }
 
 // The session that has the slot, or, where none has it, its group.
-fn holder(asking: &Asking<'_>, message: &MsgRow, slot: u32) -> Option<u32>
+pub(crate) fn holder(asking: &Asking<'_>, message: &MsgRow, slot: u32) -> Option<u32>
     ensures some { let group = group_of asking.now.pick.now.table.now message.now slot in
         IfSome result (IsHolder asking.now.locks.now message.now.id slot group) }
     ensures free_slot { IfNone result (IsFreeSlot asking.now.locks.now message.now.id slot) }
@@ -105,7 +105,7 @@ fn is_free(asking: &Asking<'_>, message: &MsgRow, slot: u32) -> bool
     is_browse(asking.pick.mode) || !is_held(asking, message, slot)
 }
 
-fn has_removed(asking: &Asking<'_>, message: &MsgRow, slot: u32) -> bool
+pub(crate) fn has_removed(asking: &Asking<'_>, message: &MsgRow, slot: u32) -> bool
     ensures { result ≡ has_removed (look_of asking.now).session message.now.id slot }
 {
     asking.locks.removed(asking.actor, message.id, slot)
@@ -135,7 +135,7 @@ fn meets_corr(pattern: Option<&Text>, corr: Option<&Text>) -> bool
     }
 }
 
-fn meets(asking: &Asking<'_>, message: &MsgRow) -> bool
+pub(crate) fn meets(asking: &Asking<'_>, message: &MsgRow) -> bool
     ensures { result ≡ meets (look_of asking.now) message.now }
 {
     let pick = asking.pick;

@@ -1,5 +1,4 @@
 use Rattle.std.proofs.Common.{sym}
-use Rattle.choice_laws.specs.Entries.{messages_of}
 use Rattle.message_choice.specs.Asking.{IsSoundFor}
 use Rattle.message_choice.proofs.Walking.{holds_at}
 use Rattle.message_choice.proofs.search.hit_at.Goals as goal
