@@ -1,0 +1,5 @@
+pub mod Alike
+pub mod Gathering
+pub mod Held
+pub mod Naming
+pub mod Walking

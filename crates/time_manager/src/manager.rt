@@ -1,0 +1,60 @@
+// All that is due at a database.
+ghost use Rattle.std.specs.Prelude.{◌≡◌, ◌<◌, ◌^◌, true, IfOk, All, option_copied};
+ghost use Rattle.queue_rows.specs.Distinct.{are_distinct};
+ghost use Rattle.queue_rows.specs.Due.{watched};
+ghost use Rattle.queue_rows.specs.Valid.{is_same_message};
+ghost use Rattle.time_manager.specs.Watching.{HasFewSlots, IsCalmAfter, IsDue, watch_of};
+
+use crate::purges::push_all_purges;
+use crate::ranks::due_ranks;
+use crate::slots::push_all_slots;
+use crate::watching::Watching;
+use aq_base::DbId;
+use due_slots::DueTables;
+use exception_queues::settle;
+use payload_records::List;
+use queue_rows::{Change, SlotRef};
+use row_locks::RowLocks;
+use std::alloc::AllocError;
+use valid_laws::nothing_due_at;
+
+fn watched<T: DueTables>(store: &T, watching: &Watching<'_>) -> Result<List<Change>, AllocError>
+    requires tables { watching.now.tables.now ≡ T.tables store.now }
+    requires moment { watching.now.moment < 2 ^ 64 }
+    requires distinct { are_distinct is_same_message (T.tables store.now).messages ≡ true }
+    requires slots { All HasFewSlots (T.tables store.now).messages }
+    ensures { IfOk result (λ changes. changes ≡ watched (watch_of watching.now)) }
+{
+    let alloc = watching.tables.seen.allocator();
+    let ranks = due_ranks(store, store.due_rows(), watching.moment, alloc)?;
+    let mut changes = List::new(alloc);
+    push_all_slots(&mut changes, watching, &ranks)?;
+    push_all_purges(&mut changes, watching, &ranks)?;
+    settle(store, changes)
+}
+
+/// What is due at a database at that moment: which slots expire or are ready, and which messages go, each in the order of the
+/// messages, and what this settles. A slot that a session holds, or that is being sent, stays. It looks at the messages alone
+/// that have a row at or before the moment.
+pub fn due<T: DueTables>(
+    store: &T,
+    db: DbId,
+    locks: &RowLocks,
+    transit: Option<&SlotRef>,
+    moment: u64,
+) -> Result<List<Change>, AllocError>
+    requires distinct { are_distinct is_same_message (T.tables store.now).messages ≡ true }
+    requires slots { All HasFewSlots (T.tables store.now).messages }
+    ensures due { IfOk result (IsDue (T.tables store.now) db locks.now (option_copied transit.entry) moment) }
+    ensures calm { IfOk result (IsCalmAfter (T.tables store.now) db locks.now (option_copied transit.entry) moment) }
+{
+    let watching = Watching {
+        tables: store.tables(),
+        locks,
+        db,
+        sent: transit,
+        moment,
+    };
+    nothing_due_at();
+    watched(store, &watching)
+}

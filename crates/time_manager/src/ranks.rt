@@ -1,0 +1,54 @@
+// Where the messages stand of which something may be due.
+ghost use Rattle.std.specs.Prelude.{◌≡◌, ◌++◌, IfOk, OnOk, filter};
+ghost use Rattle.std.specs.Option.{option_to_list};
+ghost use Rattle.due_index.specs.Due.{is_due};
+ghost use Rattle.due_slots.specs.Named.{NamesDue};
+ghost use Rattle.time_manager.specs.Ranks.{AreDueRanks, rank_of, ranks_of};
+
+use due_index::DueIndex;
+use due_slots::DueTables;
+use std::alloc::{AllocError, Global};
+
+fn push_rank<T: DueTables>(ranks: &mut Vec<usize>, store: &T, id: u64) -> Result<(), AllocError>
+    ensures { OnOk result (ranks.new.items ≡ ranks.old.items
+        ++ option_to_list (rank_of (T.tables store.now).messages id)) }
+{
+    if let Some(rank) = store.rank_of(id) {
+        ranks.push(rank)?;
+    }
+    Ok(())
+}
+
+// In the order of the rows, and as often as there are rows of the message.
+fn ranks_in_turn<T: DueTables>(
+    store: &T,
+    rows: &DueIndex,
+    moment: u64,
+    alloc: Global,
+) -> Result<Vec<usize>, AllocError>
+    ensures { IfOk result (λ ranks. ranks.items
+        ≡ ranks_of (T.tables store.now).messages (filter (is_due moment) rows.now.rows)) }
+{
+    let mut ranks = Vec::new(alloc);
+    let mut next = rows.due(moment);
+    while let Some(row) = next {
+        push_rank(&mut ranks, store, row.1)?;
+        next = rows.after(row, moment);
+    }
+    Ok(ranks)
+}
+
+/// Where the messages stand that have a row at or before the moment, each once, in the order of the messages.
+pub(crate) fn due_ranks<T: DueTables>(
+    store: &T,
+    rows: &DueIndex,
+    moment: u64,
+    alloc: Global,
+) -> Result<Vec<usize>, AllocError>
+    ensures { IfOk result (λ ranks. AreDueRanks (T.tables store.now).messages rows.now.rows moment ranks.items) }
+{
+    let mut ranks = ranks_in_turn(store, rows, moment, alloc)?;
+    ranks.sort()?;
+    ranks.dedup();
+    Ok(ranks)
+}
