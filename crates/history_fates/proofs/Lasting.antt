@@ -29,7 +29,7 @@ pub commits_uncounted : (db : DbId) (entries : List Entry) → commits_of db (ma
 commits_uncounted db [] = refl
 commits_uncounted db (e ∷ more) = ap (λ o. cons_option o (commits_of db (map uncounted more))) (commit_uncounted db e) ∙ ap (cons_option (commit_at db e)) (commits_uncounted db more)
 
-opening_is : (home away : Tables) (scripts : List SessionScript) (h : History) → Begins home away scripts h → (db : DbId) → opening_of db h ≡ opening_at db home away
+pub opening_is : (home away : Tables) (scripts : List SessionScript) (h : History) → Begins home away scripts h → (db : DbId) → opening_of db h ≡ opening_at db home away
 opening_is home away scripts h b Home = b.home_is
 opening_is home away scripts h b Away = b.away_is
 

@@ -1,4 +1,13 @@
 // Laws of legal histories, over the definitions of `queue_rows`, each a function without a body.
+ghost use Rattle.history_fates.specs.Arrivals.{
+  ArrivingCopies,
+  FittingHasArrivals,
+  FittingSeesOnce,
+  LegalHasArrivals,
+  LegalSeesOnce,
+  SeenStays,
+};
+ghost use Rattle.history_fates.specs.Durability.{LegalIsDurableAsTold};
 ghost use Rattle.history_fates.specs.LegalFates.{
   CallIsProper,
   LegalCommitsFit,
@@ -31,4 +40,40 @@ pub fn legal_commits_fit()
 /// The tables to which a legal history leads are those that its commits leave.
 pub fn legal_ends_in()
     ensures { LegalEndsIn }
+{}
+
+/// What was seen of the other database stays so.
+pub fn seen_stays()
+    ensures { SeenStays }
+{}
+
+/// Commits that fit say once at most of a slot that it was seen, and not where it was seen before.
+pub fn fitting_sees_once()
+    ensures { FittingSeesOnce }
+{}
+
+/// And so it is in a legal history.
+pub fn legal_sees_once()
+    ensures { LegalSeesOnce }
+{}
+
+/// An arrival that ends with a copy puts a message in with the facts of the one that was sent, which expires
+/// when the slot does; and the slot was not seen before.
+pub fn arriving_copies()
+    ensures { ArrivingCopies }
+{}
+
+/// Where all commits fit, each slot arrives as a copy at most once, never where it was seen before, and as it was.
+pub fn fitting_has_arrivals()
+    ensures { FittingHasArrivals }
+{}
+
+/// And so it is in a legal history.
+pub fn legal_has_arrivals()
+    ensures { LegalHasArrivals }
+{}
+
+/// When a reply is told in a legal history, every commit is durable that was made up to its call.
+pub fn legal_is_durable_as_told()
+    ensures { LegalIsDurableAsTold }
 {}
