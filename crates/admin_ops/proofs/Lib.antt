@@ -1,0 +1,4 @@
+pub mod Meanings
+pub mod Numbers
+pub mod Walking
+pub mod Working
