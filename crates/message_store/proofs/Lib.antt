@@ -6,3 +6,4 @@ pub mod MessageLemmas
 pub mod SlotLemmas
 pub mod ReadyLemmas
 pub mod StampLemmas
+pub mod OthersLemmas

@@ -1,33 +1,75 @@
 -- What is told of ids by their stamps, and how it follows the entries.
-use Rattle.std.proofs.Common.{◌≡◌, ℕ, suc, ◌+◌, ◌<◌, ◌≤◌, List, [], ◌∷◌, ◌++◌, map, take, drop, length, Bool, true, false, cond, not, inl, inr, Option, Some, None, ◌==◌, nat_lt, refl, sym, ap, ◌∙◌, subst, arith, get_or, length-append, drop-cons}
+use Rattle.std.proofs.Common.{◌≡◌, ℕ, suc, ◌+◌, ◌<◌, ◌≤◌, List, [], ◌∷◌, ◌++◌, map, take, drop, length, Bool, true, false, cond, not, inl, inr, Option, Some, None, ◌==◌, nat_lt, refl, sym, ap, ◌∙◌, subst, arith, get_or, append-nil, length-append, drop-cons}
 use Rattle.std.specs.Prelude.{All, position, remove, count_by, filter}
 use Rattle.std.specs.List.{prefix_len, position_or_len}
-use Rattle.std.specs.List.Sorted.{IsNonDecreasingBy, IsPartitionedBy, IsPartitionPoint}
-use Rattle.std.proofs.lemmas.Bool.{cases_eq, cases_Bool, lt-ltb, le-ltb}
+use Rattle.std.specs.Cmp.{nat_cmp_is}
+use Rattle.std.specs.Ordering.{is_lt, nat_cmp}
+use Rattle.std.specs.declared.cmp.Ordering.TheVariants.{Less, Equal, Greater}
+use Rattle.std.proofs.lemmas.Bool.{cases_eq, cases_Bool, lt-ltb, le-ltb, ltb-true, ltb-false}
 use Rattle.std.proofs.lemmas.List.{take-append-drop, map-append, take-map, drop-map, length-map, nil_from_length}
-use Rattle.std.proofs.lemmas.List.Elements.{All-append, All-drop, All-filter, All-head, All-map, All-take, filter-append}
+use Rattle.std.proofs.lemmas.List.Elements.{All-append, All-drop, All-filter, All-head, All-map, All-push, All-tail, All-take, All-weaker, filter-append}
 use Rattle.std.proofs.lemmas.List.Folds.{fold-map}
-use Rattle.std.proofs.lemmas.List.Sorted.{IsPartitionedBy-ltb}
-use Rattle.std.proofs.lemmas.List.Sums.{length-filter, prefix_len_is}
-use Rattle.message_store.specs.Stamps.{listed, stamps_of, AreBelow, AreRising, HasStamps, TellsStamps, without_entry}
-use Rattle.message_store.specs.declared.message_index.Entry.{Entry}
+use Rattle.std.proofs.lemmas.List.Sums.{length-filter}
+use Rattle.row_tree.specs.Bounds.{is_before}
+use Rattle.row_tree.specs.Split.{NonePass, IsSplit}
+use Rattle.message_store.specs.StampOrder.{to_stamp}
+use Rattle.message_store.specs.Stamps.{listed, stamps_of, AreBelow, AreRising, HasStamps, TellsStamps, with_entry, without_entry}
+use Rattle.message_store.specs.declared.entry.Entry.{Entry}
 use Rattle.message_store.specs.declared.message_index.Place.{Place}
 use Rattle.message_store.specs.declared.message_index.Place.TheVariants as places
 
--- stamps that rise can be searched for by halves
-never_fall : (es : List Entry) → AreRising es → IsNonDecreasingBy (λ e. e.stamp) es
-never_fall es rising i j d order within = elim (cases_eq i j) [
-  | inl same ↦ let e = ap (λ k. (get_or es k d).stamp) same in omega (arith, e)
-  | inr other ↦ let before : i < j = omega arith in let e = rising i j d before within in omega (arith, e)
+less : (a b : ℕ) → a < b → is_lt (nat_cmp a b) ≡ true
+less a b h = ap is_lt (sym (nat_cmp_is a b Less h))
+
+not_less : (a b : ℕ) → b ≤ a → is_lt (nat_cmp a b) ≡ false
+not_less a b h = elim (cases_eq a b) [
+  | inl same ↦ ap is_lt (sym (nat_cmp_is a b Equal same))
+  | inr other ↦ ap is_lt (sym (nat_cmp_is a b Greater (omega arith)))
 ]
 
-pub can_be_halved : (s : ℕ) (es : List Entry) → AreRising es → IsPartitionedBy (λ e. nat_lt e.stamp s) es
-can_be_halved s es rising = IsPartitionedBy-ltb (λ e. e.stamp) es s (never_fall es rising)
+lower : (s : ℕ) (e : Entry) → is_before (to_stamp s) e ≡ nat_lt e.stamp s
+lower s e = elim (cases_Bool (nat_lt e.stamp s)) [
+  | inl is ↦ less e.stamp s (ltb-true e.stamp s is) ∙ sym is
+  | inr is ↦ not_less e.stamp s (ltb-false e.stamp s is) ∙ sym is
+]
 
-pub counted : (s : ℕ) (es : List Entry) (n : ℕ) → n ≤ length es → IsPartitionPoint (λ e. nat_lt e.stamp s ≡ true) (λ e. nat_lt e.stamp s ≡ false) es n → n ≡ prefix_len (λ e. nat_lt e.stamp s) es
-counted s es n within parted =
-    let blank : Entry = record { id = 0; stamp = 0 } in
-    sym (prefix_len_is (λ e. nat_lt e.stamp s) es n blank within (λ k before. parted.0 k blank (omega arith) before) (λ inside. parted.1 n blank (omega arith) inside))
+-- the tail of rising entries rises
+tail_rises : (e : Entry) (es : List Entry) → AreRising (e ∷ es) → AreRising es
+tail_rises e es rising = λ i j d before within. rising (suc i) (suc j) d (omega arith) (omega arith)
+
+above_head : (e : Entry) (es : List Entry) → AreRising (e ∷ es) → All (λ later. e.stamp < later.stamp) es
+above_head e es rising = λ k d within. rising 0 (suc k) d (omega arith) (omega arith)
+
+-- an id that stands elsewhere in rising entries has a stamp above the first one
+above : (id s : ℕ) (e : Entry) (es : List Entry) → AreRising (e ∷ es) → stamps_of id es ≡ s ∷ [] → e.stamp < s
+above id s e es rising is =
+    let Above : ℕ → Type 0 = λ n. e.stamp < n in
+    let kept = filter (λ l. l.id == id) es in
+    let all : All Above (stamps_of id es) = All-map Above (λ (l : Entry). l.stamp) kept (All-filter (λ (l : Entry). l.id == id) (λ l. e.stamp < l.stamp) es (above_head e es rising)) in
+    All-head Above s [] (subst (All Above) is all)
+
+none_lower : (s : ℕ) (es : List Entry) → All (λ e. s ≤ e.stamp) es → NonePass (is_before (to_stamp s)) es
+none_lower s [] above = tt
+none_lower s (e ∷ es) above = (
+  not_less e.stamp s (All-head (λ (l : Entry). s ≤ l.stamp) e es above),
+  none_lower s es (All-tail (λ (l : Entry). s ≤ l.stamp) e es above),
+)
+
+-- stamps that rise can be searched for by halves
+pub can_be_halved : (s : ℕ) (es : List Entry) → AreRising es → IsSplit (is_before (to_stamp s)) es
+can_be_halved s [] rising = tt
+can_be_halved s (e ∷ es) rising = (
+  λ fails.
+      let past : s ≤ e.stamp = ltb-false e.stamp s (sym (lower s e) ∙ fails) in
+      none_lower s es (All-weaker (λ (l : Entry). e.stamp < l.stamp) (λ (l : Entry). s ≤ l.stamp) (λ l h. omega (arith, h, past)) es (above_head e es rising)),
+  can_be_halved s es (tail_rises e es rising),
+)
+
+-- how many stand before a stamp
+pub counted : (s : ℕ) (es : List Entry) → prefix_len (is_before (to_stamp s)) es ≡ prefix_len (λ e. nat_lt e.stamp s) es
+counted s [] = refl
+counted s (e ∷ es) =
+    ap (λ n. cond (is_before (to_stamp s) e) (1 + n) 0) (counted s es) ∙ ap (λ b. cond b (1 + prefix_len (λ l. nat_lt l.stamp s) es) 0) (lower s e)
 
 module _ {X Y : Type 0} (f : X → Y) where
   prefix_len-map : (p : Y → Bool) (xs : List X) → prefix_len p (map f xs) ≡ prefix_len (λ x. p (f x)) xs
@@ -65,21 +107,6 @@ no_place id es none =
     let past : nat_lt n n ≡ false = le-ltb n n (omega arith) in
     let e : position (λ e. e.id == id) es ≡ None = ap (λ k. cond (nat_lt k n) (Some k) None) (nowhere id es none) ∙ rw past refl in
     sym e ∙ same_place id es
-
--- the tail of rising entries rises
-tail_rises : (e : Entry) (es : List Entry) → AreRising (e ∷ es) → AreRising es
-tail_rises e es rising = λ i j d before within. rising (suc i) (suc j) d (omega arith) (omega arith)
-
-above_head : (e : Entry) (es : List Entry) → AreRising (e ∷ es) → All (λ later. e.stamp < later.stamp) es
-above_head e es rising = λ k d within. rising 0 (suc k) d (omega arith) (omega arith)
-
--- an id that stands elsewhere in rising entries has a stamp above the first one
-above : (id s : ℕ) (e : Entry) (es : List Entry) → AreRising (e ∷ es) → stamps_of id es ≡ s ∷ [] → e.stamp < s
-above id s e es rising is =
-    let Above : ℕ → Type 0 = λ n. e.stamp < n in
-    let kept = filter (λ l. l.id == id) es in
-    let all : All Above (stamps_of id es) = All-map Above (λ (l : Entry). l.stamp) kept (All-filter (λ (l : Entry). l.id == id) (λ l. e.stamp < l.stamp) es (above_head e es rising)) in
-    All-head Above s [] (subst (All Above) is all)
 
 record IsFirst (id s : ℕ) (es : List Entry) : Type 0 where
   at : position_or_len (λ e. e.id == id) es ≡ prefix_len (λ e. nat_lt e.stamp s) es
@@ -158,3 +185,33 @@ pub below_removed : (next : ℕ) (es : List Entry) (at : ℕ) → AreBelow next 
 below_removed next es at below =
     let Below : Entry → Type 0 = λ e. e.stamp < next in
     All-append Below (take at es) (drop (suc at) es) (All-take Below at es below) (All-drop Below (suc at) es below)
+
+-- what is told of an id that gets one more stamp
+got : (place : Option Place) (stamps : List ℕ) (s : ℕ) → HasStamps place stamps → HasStamps (Some (with_entry s place)) (stamps ++ s ∷ [])
+got None stamps s is = ap (λ x. x ++ s ∷ []) is
+got (Some place) stamps s is = tt
+
+-- an entry is put last, and what is told of its id follows it
+pub pushed : (told now_told : ℕ → Option Place) (es : List Entry) (e : Entry) → TellsStamps told es
+    → ((q : ℕ) → now_told q ≡ cond (e.id == q) (Some (with_entry e.stamp (told q))) (told q)) → TellsStamps now_told (es ++ e ∷ [])
+pushed told now_told es e found says q =
+    let was = stamps_of q es in
+    let left : stamps_of q (es ++ e ∷ []) ≡ was ++ stamps_of q (e ∷ []) = stamps-append q es (e ∷ []) in
+    elim (cases_Bool (e.id == q)) [
+      | inl same ↦
+          let its : stamps_of q (e ∷ []) ≡ e.stamp ∷ [] = rw same refl in
+          let is : now_told q ≡ Some (with_entry e.stamp (told q)) = says q ∙ rw same refl in
+          let whole : stamps_of q (es ++ e ∷ []) ≡ was ++ e.stamp ∷ [] = left ∙ ap (λ x. was ++ x) its in
+          subst (λ o. HasStamps o (stamps_of q (es ++ e ∷ []))) (sym is) (subst (HasStamps (Some (with_entry e.stamp (told q)))) (sym whole) (got (told q) was e.stamp (found q)))
+      | inr other ↦
+          let its : stamps_of q (e ∷ []) ≡ [] = rw other refl in
+          let is : now_told q ≡ told q = says q ∙ rw other refl in
+          let whole : stamps_of q (es ++ e ∷ []) ≡ was = left ∙ ap (λ x. was ++ x) its ∙ append-nil was in
+          subst (λ o. HasStamps o (stamps_of q (es ++ e ∷ []))) (sym is) (subst (HasStamps (told q)) (sym whole) (found q))
+    ]
+
+-- stamps stay below the next number when an entry gets the one before it
+pub below_pushed : (next : ℕ) (es : List Entry) (e : Entry) → AreBelow next es → e.stamp ≡ next → AreBelow (next + 1) (es ++ e ∷ [])
+below_pushed next es e below is =
+    let Below : Entry → Type 0 = λ l. l.stamp < next + 1 in
+    All-push Below es e (All-weaker (λ (l : Entry). l.stamp < next) Below (λ l h. omega (arith, h)) es below) (omega (arith, is))

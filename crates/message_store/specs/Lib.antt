@@ -2,6 +2,7 @@ pub mod Numbers
 pub mod Rows
 pub mod Indexed
 pub mod Stamps
+pub mod StampOrder
 pub mod Messages
 pub mod Lowered
 pub mod Room

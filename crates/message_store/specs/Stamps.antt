@@ -1,7 +1,7 @@
 -- How an index finds where an id stands: each id in the list has a stamp, and of each id it is kept what stamps
 -- it has.
 use Rattle.std.specs.Prelude.{◌≡◌, ℕ, ◌<◌, ◌==◌, List, [], ◌∷◌, All, AllPairs, filter, map, Option, Some, None, if◌then◌else◌}
-use Rattle.message_store.specs.declared.message_index.Entry.{Entry}
+use Rattle.message_store.specs.declared.entry.Entry.{Entry}
 use Rattle.message_store.specs.declared.message_index.Place.{Place}
 use Rattle.message_store.specs.declared.message_index.Place.TheVariants as places
 

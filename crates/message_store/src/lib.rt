@@ -6,6 +6,7 @@ mod apply;
 mod copies;
 mod edits;
 mod enqueued;
+mod entry;
 mod message_index;
 mod open;
 mod open_messages;

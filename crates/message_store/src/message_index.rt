@@ -4,16 +4,11 @@ ghost use Rattle.std.specs.HashMap.{get, hash_map_len, spare};
 ghost use Rattle.std.specs.List.{prefix_len};
 ghost use Rattle.message_store.specs.Stamps.{AreRising, TellsChanged, with_entry, without_entry};
 
+use crate::entry::{AtStamp, Entry};
+use row_tree::{Stock, Tree};
 use std::alloc::{AllocError, Global};
 use std::collections::HashMap;
 use std::marker::Model;
-
-/// An id in the list. Later entries have greater stamps.
-#[derive(Clone, Copy)]
-struct Entry {
-    id: u64,
-    stamp: u64,
-}
 
 /// Where an id stands.
 #[derive(Clone, Copy)]
@@ -25,17 +20,19 @@ enum Place {
 }
 
 /// Where messages stand in a list, by their ids. Contracts see the ids in the order of the list, and for how many
-/// more there is memory.
+/// more there is memory. An id is found, put last and taken out in about as many steps as their number has binary
+/// digits.
 #[derive(Drop)]
 pub(crate) struct MessageIndex {
-    entries: Vec<Entry>,
+    entries: Tree<Entry>,
+    spares: Stock<Entry>,
     places: HashMap<u64, Place>,
     next: u64,
     room: usize,
 }
 
 impl Model for MessageIndex {
-    ghost use Rattle.std.specs.Prelude.{◌+◌, ◌<◌, ◌≤◌, ◌^◌, nat_eq, vec_len, vec_capacity};
+    ghost use Rattle.std.specs.Prelude.{◌+◌, ◌<◌, ◌≤◌, ◌^◌, length, nat_eq};
     ghost use Rattle.std.specs.HashMap.{get, hash_map_len, spare};
     ghost use Rattle.message_store.specs.Indexed.{Indexed};
 
@@ -43,15 +40,17 @@ impl Model for MessageIndex {
 
     ghost use Rattle.message_store.specs.Stamps.{listed, AreRising, AreBelow, TellsStamps};
 
-    ghost view = { λ i. record { ids = listed i.entries.items; room = i.room } };
+    ghost view = { λ i. record { ids = listed i.entries; room = i.room } };
+
+    ghost use Rattle.std.below.core.specs.declared.int.usize.TheConstants.{MAX};
 
     ghost invariant = { λ i.
-        AreRising i.entries.items × AreBelow i.next i.entries.items
-        × TellsStamps (get nat_eq i.places) i.entries.items
-        × (vec_len i.entries + i.room ≤ vec_capacity i.entries)
+        AreRising i.entries × AreBelow i.next i.entries
+        × TellsStamps (get nat_eq i.places) i.entries
+        × (i.room ≤ i.spares)
         × (i.room ≤ spare i.places)
-        × (vec_len i.entries + i.room ≤ hash_map_len i.places + spare i.places)
-        × (i.next + i.room < 2 ^ 64) };
+        × (length i.entries + i.room ≤ hash_map_len i.places + spare i.places)
+        × (i.next + i.room < 2 ^ 64) × (length i.entries + i.room ≤ MAX) };
 }
 
 impl MessageIndex {
@@ -60,7 +59,8 @@ impl MessageIndex {
         ensures { result ≡ record { ids = []; room = 0 } }
     {
         MessageIndex {
-            entries: Vec::new(alloc),
+            entries: Tree::new(),
+            spares: Stock::new(alloc),
             places: HashMap::new(alloc),
             next: 0,
             room: 0,
@@ -76,8 +76,12 @@ impl MessageIndex {
         if self.next.checked_add(room as u64).is_none() {
             return Err(AllocError);
         }
-        self.entries.reserve(room)?;
-        let keyless = self.entries.len().saturating_sub(self.places.len());
+        let ids = self.entries.len();
+        if ids.checked_add(room).is_none() {
+            return Err(AllocError);
+        }
+        let keyless = ids.saturating_sub(self.places.len());
+        self.spares.reserve(room)?;
         self.places.reserve(keyless + room)?;
         self.room = room;
         Ok(())
@@ -90,8 +94,8 @@ impl MessageIndex {
     {
         match self.places.get(&id) {
             None => None,
-            Some(Place::Alone(stamp)) => Some(count_before(self.entries.as_slice(), *stamp)),
-            Some(Place::Several) => first_of(self.entries.as_slice(), id),
+            Some(Place::Alone(stamp)) => Some(count_before(&self.entries, *stamp)),
+            Some(Place::Several) => first_of(&self.entries, id),
         }
     }
 
@@ -118,9 +122,7 @@ impl MessageIndex {
             stamp: self.next,
         };
         note(&mut self.places, entry);
-        let Ok(()) = self.entries.push(entry) else {
-            unreachable!()
-        };
+        self.entries.push(entry, self.spares.take());
         self.next += 1;
         self.room -= 1;
     }
@@ -131,33 +133,23 @@ impl MessageIndex {
         ensures ids { self.new.ids ≡ remove self.old.ids at }
         ensures room { self.new.room ≡ self.old.room }
     {
-        let entry = self.entries.remove(at);
+        let (entry, _spare) = self.entries.remove(at);
         forget(&mut self.places, entry.id);
-    }
-
-    /// Takes all ids out, and keeps their memory. It takes no memory.
-    pub(crate) fn clear(&mut self)
-        ensures ids { self.new.ids ≡ [] }
-        ensures room { self.new.room ≡ self.old.room + length self.old.ids }
-    {
-        self.room += self.entries.len();
-        self.entries.clear();
-        self.places.clear();
-        self.next = 0;
     }
 }
 
-// How many of the first entries have lower stamps, found by halves.
-fn count_before(entries: &[Entry], stamp: u64) -> usize
+// How many of the first entries have lower stamps.
+fn count_before(entries: &Tree<Entry>, stamp: u64) -> usize
     requires { AreRising entries.now }
     ensures { result ≡ prefix_len (λ e. nat_lt e.stamp stamp) entries.now }
 {
-    entries.partition_point(|entry| entry.stamp < stamp)
+    entries.rank(&AtStamp { stamp })
 }
 
-fn first_of(entries: &[Entry], id: u64) -> Option<usize>
+fn first_of(entries: &Tree<Entry>, id: u64) -> Option<usize>
     ensures { result ≡ position (λ e. e.id == id) entries.now }
 {
+    let _most = entries.len();
     entries.iter().position(|entry| entry.id == id)
 }
 

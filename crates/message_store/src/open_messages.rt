@@ -1,5 +1,5 @@
 // The messages of a database, while a commit is made.
-ghost use Rattle.std.specs.Prelude.{◌≡◌, ◌==◌, ◌+◌, ◌-◌, ◌<◌, ◌≤◌, [], ◌∷◌, ◌++◌, IfSome, IsTrue, OnOk, OnErr, count_by, filter, find, length, not, option_copied, position, remove};
+ghost use Rattle.std.specs.Prelude.{◌≡◌, ◌==◌, ◌+◌, ◌-◌, ◌<◌, ◌≤◌, [], ◌∷◌, ◌++◌, IfSome, IsTrue, OnOk, OnErr, count_by, filter, find, length, not, option_copied, option_map, position, remove, slice_get};
 ghost use Rattle.std.specs.Str.{bytes_eq};
 ghost use Rattle.queue_rows.specs.Rows.{with_slot};
 ghost use Rattle.queue_rows.specs.Tables.{in_state, moved_to, retried};
@@ -40,22 +40,6 @@ impl Model for OpenMessages {
     ghost invariant = { λ m.
         IsIndexed (record { items = m.rows; room = m.room }) m.index
         × (m.room ≤ m.places) × (length m.rows + m.room ≤ MAX) };
-}
-
-fn note_all(index: &mut MessageIndex, rows: &Tree<MsgRow>)
-    requires { length rows.now ≤ index.old.room }
-    ensures ids { index.new.ids ≡ index.old.ids ++ ids_of rows.now }
-    ensures room { index.old.room ≤ index.new.room + length rows.now }
-{
-    for row in rows {
-        index.push(row.id);
-    }
-}
-
-fn keep_others(rows: &mut Tree<MsgRow>, queue: &Name)
-    ensures { rows.new ≡ filter (λ m. not (bytes_eq m.queue queue.now)) rows.old }
-{
-    rows.retain(|message| message.queue != *queue);
 }
 
 fn take_out(rows: &mut Tree<MsgRow>, at: usize)
@@ -147,18 +131,41 @@ impl OpenMessages {
         ensures { self.new ≡ without_first (λ m. m.id == id) self.old }
     {
         if let Some(at) = self.position(id) {
-            self.index.remove(at);
-            take_out(&mut self.rows, at);
+            self.remove_at(at);
         }
+    }
+
+    fn remove_at(&mut self, at: usize)
+        requires { at < length self.old.items }
+        ensures { self.new ≡ record self.old { items = remove self.old.items at } }
+    {
+        self.index.remove(at);
+        take_out(&mut self.rows, at);
+    }
+
+    // Whether the message at an index stands in that queue; None past the end.
+    fn stands_in(&self, at: usize, queue: &Name) -> Option<bool>
+        ensures stands { result ≡ option_map (λ m. bytes_eq m.queue queue.now) (slice_get self.now.items at) }
+        ensures within { IfSome result (λ _. at < length self.now.items) }
+        ensures countable { length self.now.items ≤ usize.MAX }
+    {
+        let _most = self.rows.len();
+        let message = self.rows.get(at)?;
+        Some(message.queue == *queue)
     }
 
     /// Takes the messages of that queue out. It takes no memory.
     pub(crate) fn remove_of_queue(&mut self, queue: &Name)
         ensures { self.new ≡ filtered (λ m. not (bytes_eq m.queue queue.now)) self.old }
     {
-        keep_others(&mut self.rows, queue);
-        self.index.clear();
-        note_all(&mut self.index, &self.rows);
+        let mut at = 0;
+        while let Some(goes) = self.stands_in(at, queue) {
+            if goes {
+                self.remove_at(at);
+            } else {
+                at += 1;
+            }
+        }
     }
 
     // The first message of that number is changed, and keeps its number.
