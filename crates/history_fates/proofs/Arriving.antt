@@ -87,16 +87,16 @@ fitting_has_arrivals h fit a = record {
 -- ---- a legal history
 
 module _ (opening : DbId → Tables) where
-  abbrev left_at : DbId → List Entry → Tables
+  abbrev pub left_at : DbId → List Entry → Tables
   left_at db entries = after_commits (opening db) (commits_of db entries)
 
-  abbrev AreIn : List Entry → Type 0
+  abbrev pub AreIn : List Entry → Type 0
   AreIn entries = (at : SlotRef) (id : ℕ) (before : List Entry) (e : Entry) (rest : List Entry) → entries ≡ before ++ e ∷ rest → copy_by at e.step ≡ Some id → ArrivesSo (left_at at.db before) (left_at (other_db at.db) before) at id e
 
-  none_in : AreIn []
+  pub none_in : AreIn []
   none_in at id before e rest q f = absurd (no_items before e rest q)
 
-  more_in : (entries : List Entry) (x : Entry) → AreIn entries → ((at : SlotRef) (id : ℕ) → copy_by at x.step ≡ Some id → ArrivesSo (left_at at.db entries) (left_at (other_db at.db) entries) at id x) → AreIn (entries ++ x ∷ [])
+  pub more_in : (entries : List Entry) (x : Entry) → AreIn entries → ((at : SlotRef) (id : ℕ) → copy_by at x.step ≡ Some id → ArrivesSo (left_at at.db entries) (left_at (other_db at.db) entries) at id x) → AreIn (entries ++ x ∷ [])
   more_in entries x a one at id before e rest q f = by (last_or_before entries x before e rest q)
     where
       by : ((before ≡ entries) × (e ≡ x)) ⊎ ((more : List Entry) × (entries ≡ before ++ e ∷ more)) → ArrivesSo (left_at at.db before) (left_at (other_db at.db) before) at id e

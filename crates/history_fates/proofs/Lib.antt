@@ -1,6 +1,7 @@
 pub mod Arriving
 pub mod Commits
 pub mod Copying
+pub mod Example
 pub mod Giving
 pub mod Lasting
 pub mod Making

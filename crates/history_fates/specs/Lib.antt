@@ -1,3 +1,4 @@
 pub mod Arrivals
 pub mod Durability
+pub mod Examples
 pub mod LegalFates

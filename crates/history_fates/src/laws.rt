@@ -8,6 +8,7 @@ ghost use Rattle.history_fates.specs.Arrivals.{
   SeenStays,
 };
 ghost use Rattle.history_fates.specs.Durability.{LegalIsDurableAsTold};
+ghost use Rattle.history_fates.specs.Examples.{ExampleIsGivenUp, ExampleIsPut, ExampleIsSent, ExampleIsTaken};
 ghost use Rattle.history_fates.specs.LegalFates.{
   CallIsProper,
   LegalCommitsFit,
@@ -76,4 +77,25 @@ pub fn legal_has_arrivals()
 /// When a reply is told in a legal history, every commit is durable that was made up to its call.
 pub fn legal_is_durable_as_told()
     ensures { LegalIsDurableAsTold }
+{}
+
+/// A history in which a message is taken is legal: the slot is processed, the message is gone, and its commit was
+/// durable when the call was told.
+pub fn example_is_taken()
+    ensures { ExampleIsTaken }
+{}
+
+/// One in which a removal is rolled back too often is legal: the slot expired, and slot 0 is ready.
+pub fn example_is_given_up()
+    ensures { ExampleIsGivenUp }
+{}
+
+/// One in which a message is put in beside another one is legal: both are ready.
+pub fn example_is_put()
+    ensures { ExampleIsPut }
+{}
+
+/// One in which a slot is sent to the other database fits, and its arrival is as it is to be.
+pub fn example_is_sent()
+    ensures { ExampleIsSent }
 {}

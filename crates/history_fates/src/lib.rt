@@ -6,7 +6,8 @@
 mod laws;
 
 pub use laws::{
-    arriving_copies, call_is_proper, fitting_has_arrivals, fitting_sees_once, legal_commits_fit,
-    legal_ends_in, legal_has_arrivals, legal_has_fates, legal_is_durable_as_told, legal_is_made,
-    legal_sees_once, seen_stays,
+    arriving_copies, call_is_proper, example_is_given_up, example_is_put, example_is_sent,
+    example_is_taken, fitting_has_arrivals, fitting_sees_once, legal_commits_fit, legal_ends_in,
+    legal_has_arrivals, legal_has_fates, legal_is_durable_as_told, legal_is_made, legal_sees_once,
+    seen_stays,
 };
