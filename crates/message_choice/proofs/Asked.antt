@@ -15,7 +15,7 @@ use Rattle.queue_rows.specs.declared.statement.Mode.{Mode}
 use Rattle.choice_laws.specs.Choosing.{may_give}
 use Rattle.choice_laws.specs.LookLaws.{passed_over}
 use Rattle.message_choice.specs.Asking.{IsLookOf, look_of}
-use Rattle.message_choice.specs.Searched.{candidates, most_looks}
+use Rattle.message_choice.specs.Offered.{candidates, most_looks}
 use Rattle.message_choice.specs.Wanted.{IsSlotFor, filter_for, lies_in, most_steps}
 use Rattle.message_choice.specs.declared.asking.Asking.{Asking}
 use Rattle.message_choice.specs.declared.asking.Choice as own

@@ -12,12 +12,12 @@ use Rattle.queue_rows.specs.declared.statement.Navigation.{Navigation}
 use Rattle.queue_rows.specs.declared.statement.Navigation.TheVariants as navigations
 use Rattle.choice_laws.specs.Choosing.{may_give}
 use Rattle.choice_laws.proofs.Searching.{filter_both, filter_implied}
-use Rattle.message_choice.specs.Searched.{candidates, most_looks}
-use Rattle.message_choice.specs.Wanted.{filter_for, lies_in, nearest_past, passes}
+use Rattle.message_choice.specs.Offered.{candidates, most_looks}
+use Rattle.message_choice.specs.Wanted.{filter_for, lies_in, nearest_past, passes, passes_behind}
 use Rattle.message_choice.specs.declared.asking.Filter.{Filter}
 use Rattle.message_choice.specs.declared.asking.Filter.TheVariants as filters
 
-filter_all : {T : Type 0} (xs : List T) → filter (λ x. true) xs ≡ xs
+pub filter_all : {T : Type 0} (xs : List T) → filter (λ x. true) xs ≡ xs
 filter_all [] = refl
 filter_all (x ∷ xs) = ap (λ ys. x ∷ ys) (filter_all xs)
 
@@ -77,3 +77,8 @@ from_nowhere navigations.NextTransaction grouped = refl
 -- a bound on the steps of a filter is one for the filter that the navigation asks for
 pub steps_by : (l : Look) (ms : List MsgRow) (asked f : Filter) → asked ≡ f → (after before : ℕ) → after ≤ before + 2 * most_looks l f ms → after ≤ before + 2 * most_looks l asked ms
 steps_by l ms asked f same after before few = subst (λ (x : Filter). after ≤ before + 2 * most_looks l x ms) (sym same) few
+
+-- the nearest of those that pass and stand past a place is the nearest of those that pass
+pub walk_is_nearest : (l : Look) (f : Filter) (place : Option (List ℤ)) (ms : List MsgRow) → least (filter (passes_behind l f place) ms) ≡ nearest_past l f place ms
+walk_is_nearest l f None ms = ap least (sym (filter_both (passes l f) (λ m. true) ms) ∙ filter_all (filter (passes l f) ms))
+walk_is_nearest l f (Some p) ms = ap least (sym (filter_both (passes l f) (λ m. stands_before p m.place) ms))

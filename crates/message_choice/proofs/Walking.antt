@@ -25,7 +25,8 @@ use Rattle.choice_laws.proofs.Looking.{looks_are_few, looks_past_are_few}
 use Rattle.choice_laws.proofs.Searching.{first_is_least, first_past_is_least}
 use Rattle.choice_laws.proofs.Standing.{rows_rise}
 use Rattle.message_choice.specs.Indexed.{IndexesReady, stamped}
-use Rattle.message_choice.specs.Searched.{rows_in, rows_from, first_from, looks_from, most_looks}
+use Rattle.message_choice.specs.Offered.{most_looks}
+use Rattle.message_choice.specs.Searched.{rows_in, rows_from, first_from, looks_from}
 use Rattle.message_choice.specs.Wanted.{lies_in, nearest_past, passes}
 use Rattle.message_choice.specs.declared.asking.Filter.{Filter}
 
@@ -83,17 +84,17 @@ module _ (l : Look) (entries : List Entry) (groups : List Group) (rising : AreRi
 -- ---- one row
 
 module _ (test : MsgRow → Bool) where
-  missed_by : (o : Option MsgRow) → kept_by test o ≡ None → option_map_or test o false ≡ false
+  pub missed_by : (o : Option MsgRow) → kept_by test o ≡ None → option_map_or test o false ≡ false
   missed_by None e = refl
   missed_by (Some m) e =
       let P : Bool → Type 0 = λ b. cond b (Some m) None ≡ None → b ≡ false in
       (elim (test m) as P [ true ↦ λ h. cc h | false ↦ λ h. refl ]) e
 
-  record IsHit (o : Option MsgRow) (m : MsgRow) : Type 0 where
-    passes : option_map_or test o false ≡ true
-    is : o ≡ Some m
+  pub record IsHit (o : Option MsgRow) (m : MsgRow) : Type 0 where
+    pub passes : option_map_or test o false ≡ true
+    pub is : o ≡ Some m
 
-  hit_by : (o : Option MsgRow) (m : MsgRow) → kept_by test o ≡ Some m → IsHit o m
+  pub hit_by : (o : Option MsgRow) (m : MsgRow) → kept_by test o ≡ Some m → IsHit o m
   hit_by None m e = cc e
   hit_by (Some n) m e =
       let P : Bool → Type 0 = λ b. test n ≡ b → cond b (Some n) None ≡ Some m → IsHit (Some n) m in

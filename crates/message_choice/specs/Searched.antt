@@ -1,14 +1,13 @@
 -- What a search in the rows of a queue and consumer finds, and how many it looks at.
-use Rattle.std.specs.Prelude.{◌+◌, ℕ, List, Option, filter, option_map}
+use Rattle.std.specs.Prelude.{ℕ, List, Option, option_map}
 use Rattle.queue_rows.specs.Dequeueing.{Look}
 use Rattle.queue_rows.specs.declared.rows.MsgRow.{MsgRow}
 use Rattle.sort_index.specs.declared.group.Ready.{Ready}
 use Rattle.sort_index.specs.declared.group.Group.{Group}
-use Rattle.choice_laws.specs.Choosing.{first_passing, looks, may_give}
+use Rattle.choice_laws.specs.Choosing.{first_passing, looks}
 use Rattle.choice_laws.specs.Choosing as rows
 use Rattle.choice_laws.specs.Entries.{Entry, Row, AreRising, messages_of, rows_for}
 use Rattle.choice_laws.specs.GoingLaws.{from_row}
-use Rattle.choice_laws.specs.LookLaws.{passed_over}
 use Rattle.message_choice.specs.Asking.{AreSoundFor}
 use Rattle.message_choice.specs.Indexed.{IndexesReady, stamped}
 use Rattle.message_choice.specs.Wanted.{passes}
@@ -35,12 +34,3 @@ first_from l f entries row = first_passing entries (passes l f) (rows_from l ent
 -- how many of them are looked at
 abbrev pub looks_from : Look → Filter → List Entry → Option Ready → ℕ
 looks_from l f entries row = looks (rows.passes entries (passes l f)) (rows_from l entries row)
-
--- at most so many rows are looked at in one search: one more than there are messages of the queue with a ready slot for the consumer
--- that do not pass
-abbrev pub most_looks : Look → Filter → List MsgRow → ℕ
-most_looks l f messages = passed_over l.queue.name l.ask.consumer (passes l f) messages + 1
-
--- the messages that the dequeue may give
-abbrev pub candidates : Look → List MsgRow → List MsgRow
-candidates l messages = filter (may_give l) messages

@@ -52,6 +52,15 @@ abbrev pub all_past : Option (List ℤ) → List MsgRow → List MsgRow
 all_past None ms = ms
 all_past (Some place) ms = filter (λ m. stands_before place m.place) ms
 
+-- the message stands past a place, where one is given
+abbrev pub is_behind : Option (List ℤ) → MsgRow → Bool
+is_behind None m = true
+is_behind (Some place) m = stands_before place m.place
+
+-- it passes, and stands past the place
+abbrev pub passes_behind : Look → Filter → Option (List ℤ) → MsgRow → Bool
+passes_behind l f place m = passes l f m && is_behind place m
+
 -- of those that pass the nearest past a place, where one is given
 abbrev pub nearest_past : Look → Filter → Option (List ℤ) → List MsgRow → Option MsgRow
 nearest_past l f place ms = least (all_past place (filter (passes l f) ms))

@@ -5,14 +5,16 @@ mod asking;
 mod choosing;
 mod claims;
 mod consumers;
+mod rows;
 mod search;
 mod stamped;
 mod tables;
 mod test;
 mod waiting;
+mod walk;
 
 pub use asking::{Choice, Claim, Pick};
-pub use choosing::choose;
+pub use choosing::{choose, choose_by_walk};
 pub use claims::claim;
 pub use consumers::{has_needless_consumer, lacks_consumer};
 pub use stamped::StampedMessages;

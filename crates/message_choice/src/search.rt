@@ -1,82 +1,55 @@
-// Searches in the rows of a queue and consumer.
-ghost use Rattle.std.specs.Prelude.{◌≡◌, ◌+◌, ◌≤◌, IfSome, length, option_copied};
-ghost use Rattle.std.specs.Option.{option_to_list};
+// A way to the nearest of the messages that a dequeue may give.
+ghost use Rattle.std.specs.Prelude.{◌≡◌, ◌+◌, ◌≤◌, List, Some, IfSome, option_copied};
 ghost use Rattle.row_tree.specs.Found.{kept_by};
-ghost use Rattle.choice_laws.specs.Entries.{message_at, messages_of};
-ghost use Rattle.message_choice.specs.Asking.{AreSoundFor, look_of};
-ghost use Rattle.message_choice.specs.Searched.{CanSearch, first_from, looks_from, most_looks};
-ghost use Rattle.message_choice.specs.Wanted.{HasSlotFor, message_of, nearest_past, passes};
+ghost use Rattle.queue_rows.specs.declared.rows.MsgRow.{MsgRow};
+ghost use Rattle.message_choice.specs.Asking.{IsSoundFor, look_of};
+ghost use Rattle.message_choice.specs.Offered.{nearest_for, search_limit};
+ghost use Rattle.message_choice.specs.Wanted.{HasSlotFor, message_of, passes};
+ghost use Rattle.message_choice.specs.declared.asking.Asking.{Asking};
 
-use crate::StampedMessages;
 use crate::asking::{Asking, Filter, Hit};
 use crate::test::{given_slot, lies_in};
 use place_keys::Place;
-use sort_index::{Ready, ReadyIndex, Steps};
+use queue_rows::MsgRow;
+use sort_index::Steps;
 use std::sync::ledger::Ledger;
 
-// The message with that stamp and the slot that may be given of it, where it passes.
-fn hit_at<'a, M: StampedMessages>(
-    messages: &'a M,
+/// A way to the nearest of some messages.
+pub(crate) trait Search<M> {
+    ghost rows_of: { M → List MsgRow };
+
+    ghost can_search: { Self → M → Asking → Type 0 };
+
+    /// The nearest message past a place, where one is given, that the dequeue may give and the filter lets through.
+    fn nearest<'a, L: Ledger>(
+        &self,
+        messages: &'a M,
+        asking: &Asking<'_>,
+        filter: Filter,
+        after: Option<&Place>,
+        steps: &mut Steps<L>,
+    ) -> Option<Hit<'a>>
+        requires { can_search self.now messages.now asking.now }
+        ensures message { message_of result
+            ≡ nearest_for asking.now filter (option_copied after.entry) (rows_of messages.now) }
+        ensures slot { IfSome result (λ hit. HasSlotFor (look_of asking.now) hit.message.now hit.slot) }
+        ensures steps { steps.new ≤ steps.old + search_limit asking.now filter (rows_of messages.now) };
+}
+
+/// The message and the slot that may be given of it, where it passes.
+pub(crate) fn hit_of<'a>(
     asking: &Asking<'_>,
     filter: Filter,
-    stamp: u64,
+    message: &'a MsgRow,
 ) -> Option<Hit<'a>>
-    requires { AreSoundFor asking.now (messages_of (M.entries messages.now)) }
-    ensures message { message_of result ≡ kept_by (passes (look_of asking.now) filter) (message_at (M.entries messages.now) stamp) }
+    requires { IsSoundFor asking.now message.now }
+    ensures message { message_of result ≡ kept_by (passes (look_of asking.now) filter) (Some message.now) }
     ensures slot { IfSome result (λ hit. HasSlotFor (look_of asking.now) hit.message.now hit.slot) }
 {
-    let message = messages.message_at(stamp)?;
     let slot = given_slot(asking, message)?;
     if lies_in(filter, message) {
         Some(Hit { message, slot })
     } else {
         None
     }
-}
-
-// The first message that passes, of the rows from this one on.
-fn search_from<'a, M: StampedMessages, L: Ledger>(
-    messages: &'a M,
-    ready: &ReadyIndex,
-    asking: &Asking<'_>,
-    filter: Filter,
-    first: Option<&Ready>,
-    steps: &mut Steps<L>,
-) -> Option<Hit<'a>>
-    requires { CanSearch asking.now (M.entries messages.now) ready.now.groups }
-    ensures message { message_of result ≡ first_from (look_of asking.now) filter (M.entries messages.now) (option_copied first.entry) }
-    ensures slot { IfSome result (λ hit. HasSlotFor (look_of asking.now) hit.message.now hit.slot) }
-    ensures steps { steps.new + length (option_to_list first.entry)
-        ≡ steps.old + looks_from (look_of asking.now) filter (M.entries messages.now) (option_copied first.entry) }
-{
-    let pick = asking.pick;
-    let mut next = first;
-    while let Some(row) = next {
-        if let Some(hit) = hit_at(messages, asking, filter, row.id) {
-            return Some(hit);
-        }
-        let after = Some((&row.place, row.id));
-        next = ready.next_row(&pick.queue.name, pick.consumer, after, steps);
-    }
-    None
-}
-
-/// The nearest message past a place, where one is given, that the dequeue may give and the filter lets through.
-pub(crate) fn search<'a, M: StampedMessages, L: Ledger>(
-    messages: &'a M,
-    ready: &ReadyIndex,
-    asking: &Asking<'_>,
-    filter: Filter,
-    after: Option<&Place>,
-    steps: &mut Steps<L>,
-) -> Option<Hit<'a>>
-    requires { CanSearch asking.now (M.entries messages.now) ready.now.groups }
-    ensures message { message_of result
-        ≡ nearest_past (look_of asking.now) filter (option_copied after.entry) (messages_of (M.entries messages.now)) }
-    ensures slot { IfSome result (λ hit. HasSlotFor (look_of asking.now) hit.message.now hit.slot) }
-    ensures steps { steps.new ≤ steps.old + most_looks (look_of asking.now) filter (messages_of (M.entries messages.now)) }
-{
-    let pick = asking.pick;
-    let first = ready.first_row_past(&pick.queue.name, pick.consumer, after, steps);
-    search_from(messages, ready, asking, filter, first, steps)
 }

@@ -6,7 +6,9 @@ ghost use Rattle.message_choice.specs.Asking.{AreSound, IsLookOf};
 ghost use Rattle.message_choice.specs.Wanted.{IsSlotFor, chosen_by, most_steps};
 
 use crate::asking::{Choice, Pick};
+use crate::choosing::choose_by_walk;
 use exception_queues::MessageTables;
+use queue_rows::Tables;
 use row_locks::RowLocks;
 use sort_index::Steps;
 use std::sync::ledger::Ledger;
@@ -31,4 +33,17 @@ pub trait ChoosesMessages: MessageTables {
             → IsSlotFor l result }
         ensures steps { (l : Look) → IsLookOf pick.now actor locks.now (Self.tables self.now).messages l
             → steps.new ≤ steps.old + most_steps l };
+}
+
+/// The tables themselves, by a walk over all messages.
+impl ChoosesMessages for Tables {
+    fn choose<'a, L: Ledger>(
+        &'a self,
+        locks: &RowLocks,
+        actor: u32,
+        pick: &Pick<'_>,
+        steps: &mut Steps<L>,
+    ) -> Choice<'a> {
+        choose_by_walk(&self.messages, locks, actor, pick, steps)
+    }
 }

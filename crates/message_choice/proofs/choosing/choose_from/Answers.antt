@@ -1,9 +1,8 @@
 use Rattle.std.proofs.Common.{Some, ap}
 use Rattle.queue_rows.specs.declared.statement.Navigation.{Navigation}
 use Rattle.queue_rows.specs.declared.statement.Navigation.TheVariants as navigations
-use Rattle.choice_laws.specs.Entries.{messages_of}
 use Rattle.message_choice.specs.Asking.{look_of}
-use Rattle.message_choice.specs.Searched.{most_looks}
+use Rattle.message_choice.specs.Offered.{most_looks}
 use Rattle.message_choice.specs.Wanted.{filter_for}
 use Rattle.message_choice.specs.declared.asking.Filter.TheVariants as filters
 use Rattle.message_choice.proofs.Navigating.{steps_by}
@@ -13,7 +12,7 @@ use Rattle.message_choice.proofs.choosing.choose_from.Goals as goal
 pub returns-in-First-clause-steps : goal.returns-in-First-clause-steps
 returns-in-First-clause-steps g c =
     let l = look_of c.args.asking.now in
-    let messages = messages_of (g.M.StampedMessages.entries c.args.messages.now) in
+    let messages = g.S.Search.rows_of c.args.messages.now in
     let p = c.args.position.now in
     let pick = c.args.asking.now.pick.now in
     steps_by l messages (filter_for pick.navigation (Some p) pick.table.now.grouped) filters.All (ap (λ (n : Navigation). filter_for n (Some p) pick.table.now.grouped) c.in-First.is)
@@ -22,7 +21,7 @@ returns-in-First-clause-steps g c =
 pub returns-in-Next-clause-steps : goal.returns-in-Next-clause-steps
 returns-in-Next-clause-steps g c =
     let l = look_of c.args.asking.now in
-    let messages = messages_of (g.M.StampedMessages.entries c.args.messages.now) in
+    let messages = g.S.Search.rows_of c.args.messages.now in
     let p = c.args.position.now in
     let pick = c.args.asking.now.pick.now in
     steps_by l messages (filter_for pick.navigation (Some p) pick.table.now.grouped) (filter_for navigations.Next (Some p) pick.table.now.grouped) (ap (λ (n : Navigation). filter_for n (Some p) pick.table.now.grouped) c.in-Next.is)
@@ -31,7 +30,7 @@ returns-in-Next-clause-steps g c =
 pub returns-in-NextTransaction-clause-steps : goal.returns-in-NextTransaction-clause-steps
 returns-in-NextTransaction-clause-steps g c =
     let l = look_of c.args.asking.now in
-    let messages = messages_of (g.M.StampedMessages.entries c.args.messages.now) in
+    let messages = g.S.Search.rows_of c.args.messages.now in
     let p = c.args.position.now in
     let pick = c.args.asking.now.pick.now in
     steps_by l messages (filter_for pick.navigation (Some p) pick.table.now.grouped) (filters.PastGroup p.group) (ap (λ (n : Navigation). filter_for n (Some p) pick.table.now.grouped) c.in-NextTransaction.is)

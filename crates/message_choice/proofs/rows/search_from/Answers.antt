@@ -7,7 +7,7 @@ use Rattle.message_choice.specs.Asking.{look_of}
 use Rattle.message_choice.specs.Searched.{first_from, looks_from, rows_from}
 use Rattle.message_choice.specs.Wanted.{message_of}
 use Rattle.message_choice.proofs.Walking.{ends_with, goes_on_with, steps_of_hit, steps_of_next, one_less}
-use Rattle.message_choice.proofs.search.search_from.Goals as goal
+use Rattle.message_choice.proofs.rows.search_from.Goals as goal
 
 pub returns-in-Some-hit_at-clause-message : goal.returns-in-Some-hit_at-clause-message
 returns-in-Some-hit_at-clause-message g c =

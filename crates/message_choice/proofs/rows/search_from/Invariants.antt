@@ -4,7 +4,7 @@ use Rattle.std.specs.Prelude.{option_copied}
 use Rattle.std.specs.Option.{option_to_list}
 use Rattle.message_choice.specs.Asking.{look_of}
 use Rattle.message_choice.specs.Searched.{first_from, looks_from, rows_from}
-use Rattle.message_choice.proofs.search.search_from.Given as goal
+use Rattle.message_choice.proofs.rows.search_from.Given as goal
 
 abbrev pub invariant-loop-next : goal.invariant-loop-next
 invariant-loop-next g l =

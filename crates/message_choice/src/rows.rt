@@ -1,0 +1,80 @@
+// Searches in the rows of a queue and consumer.
+ghost use Rattle.std.specs.Prelude.{◌≡◌, ◌+◌, IfSome, length, option_copied};
+ghost use Rattle.std.specs.Option.{option_to_list};
+ghost use Rattle.row_tree.specs.Found.{kept_by};
+ghost use Rattle.choice_laws.specs.Entries.{message_at, messages_of};
+ghost use Rattle.message_choice.specs.Asking.{AreSoundFor, look_of};
+ghost use Rattle.message_choice.specs.Searched.{CanSearch, first_from, looks_from};
+ghost use Rattle.message_choice.specs.Wanted.{HasSlotFor, message_of, passes};
+
+use crate::StampedMessages;
+use crate::asking::{Asking, Filter, Hit};
+use crate::search::{Search, hit_of};
+use place_keys::Place;
+use sort_index::{Ready, ReadyIndex, Steps};
+use std::sync::ledger::Ledger;
+
+// The message with that stamp and the slot that may be given of it, where it passes.
+fn hit_at<'a, M: StampedMessages>(
+    messages: &'a M,
+    asking: &Asking<'_>,
+    filter: Filter,
+    stamp: u64,
+) -> Option<Hit<'a>>
+    requires { AreSoundFor asking.now (messages_of (M.entries messages.now)) }
+    ensures message { message_of result
+        ≡ kept_by (passes (look_of asking.now) filter) (message_at (M.entries messages.now) stamp) }
+    ensures slot { IfSome result (λ hit. HasSlotFor (look_of asking.now) hit.message.now hit.slot) }
+{
+    let message = messages.message_at(stamp)?;
+    hit_of(asking, filter, message)
+}
+
+// The first message that passes, of the rows from this one on.
+fn search_from<'a, M: StampedMessages, L: Ledger>(
+    messages: &'a M,
+    ready: &ReadyIndex,
+    asking: &Asking<'_>,
+    filter: Filter,
+    first: Option<&Ready>,
+    steps: &mut Steps<L>,
+) -> Option<Hit<'a>>
+    requires { CanSearch asking.now (M.entries messages.now) ready.now.groups }
+    ensures message { let entries = M.entries messages.now in
+        message_of result ≡ first_from (look_of asking.now) filter entries (option_copied first.entry) }
+    ensures slot { IfSome result (λ hit. HasSlotFor (look_of asking.now) hit.message.now hit.slot) }
+    ensures steps { let entries = M.entries messages.now in
+        steps.new + length (option_to_list first.entry)
+        ≡ steps.old + looks_from (look_of asking.now) filter entries (option_copied first.entry) }
+{
+    let pick = asking.pick;
+    let mut next = first;
+    while let Some(row) = next {
+        if let Some(hit) = hit_at(messages, asking, filter, row.id) {
+            return Some(hit);
+        }
+        let after = Some((&row.place, row.id));
+        next = ready.next_row(&pick.queue.name, pick.consumer, after, steps);
+    }
+    None
+}
+
+// By the rows of the queue and consumer.
+impl<M: StampedMessages> Search<M> for ReadyIndex {
+    ghost rows_of = { λ messages. messages_of (M.entries messages) };
+
+    ghost can_search = { λ ready messages asking. CanSearch asking (M.entries messages) ready.groups };
+
+    fn nearest<'a, L: Ledger>(
+        &self,
+        messages: &'a M,
+        asking: &Asking<'_>,
+        filter: Filter,
+        after: Option<&Place>,
+        steps: &mut Steps<L>,
+    ) -> Option<Hit<'a>> {
+        let pick = asking.pick;
+        let first = self.first_row_past(&pick.queue.name, pick.consumer, after, steps);
+        search_from(messages, self, asking, filter, first, steps)
+    }
+}
