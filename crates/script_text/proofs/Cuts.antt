@@ -1,13 +1,13 @@
 -- The first line of a text.
-use Rattle.std.proofs.Common.{◌≡◌, ℕ, ◌+◌, ◌-◌, ◌<◌, ◌≤◌, inl, inr, List, [], ◌∷◌, Some, None, false, length, take, drop, ap, ◌∙◌, arith, length-drop}
+use Rattle.std.proofs.Common.{◌≡◌, ℕ, ◌+◌, ◌-◌, ◌<◌, ◌≤◌, inl, inr, List, [], ◌∷◌, Some, None, false, length, take, drop, ap, ◌∙◌, arith, refl, length-drop}
 use Rattle.std.specs.Prelude.{position}
-use Rattle.std.specs.List.{All, position_or_len}
+use Rattle.std.specs.List.{All, position_or_len, count_by}
 use Rattle.std.proofs.lemmas.List.{take_all}
-use Rattle.std.proofs.lemmas.List.Splits.{slice_split_first, slice_split_none}
+use Rattle.std.proofs.lemmas.List.Splits.{slice_split_first, slice_split_none, length-slice_split}
 use Rattle.std.proofs.lemmas.List.Sums.{fails_before_first}
 use Rattle.std.proofs.lemmas.Bool.{cases_lt}
 use Rattle.std.proofs.lemmas.Grind.{common_steps}
-use Rattle.script_text.specs.Script.{is_line_feed, lines_of}
+use Rattle.script_text.specs.Script.{is_line_feed, lines_of, lines_before_last}
 
 take_rest : (at : ℕ) (text : List ℕ) → take (length text - at) (drop at text) ≡ drop at text
 take_rest at text = take_all (length text - at) (drop at text) (omega (arith, length-drop at text))
@@ -28,3 +28,13 @@ uncut text e = elim (cases_lt (position_or_len is_line_feed text) (length text))
   | inl within ↦ absurd (grind (arith, common_steps))
   | inr past ↦ slice_split_none is_line_feed text (no_feed text past)
 ]
+
+-- the lines but the last, where a line feed stands behind the first
+pub before_last_on : (text line rest : List ℕ) → lines_of text ≡ line ∷ lines_of rest → lines_before_last text ≡ line ∷ lines_before_last rest
+before_last_on text line rest e =
+    let len : length (lines_of rest) ≡ count_by is_line_feed rest + 1 = length-slice_split is_line_feed rest in
+    rw (e, len) (grind (arith, common_steps))
+
+-- and where none does
+pub before_last_end : (text line : List ℕ) → lines_of text ≡ line ∷ [] → lines_before_last text ≡ []
+before_last_end text line e = rw e refl

@@ -1,5 +1,5 @@
 -- What a script says: the sessions that it declares with the statements that they ask, or its first bad line.
-use Rattle.std.specs.Prelude.{◌≡◌, ◌≤◌, ℕ, ◌+◌, ◌||◌, ◌==◌, nat_le, position, List, [], ◌∷◌, ◌++◌, length, take, Bool, Option, Some, None, is_some, option_map, option_and_then, Result, Ok, Err, All, if◌then◌else◌}
+use Rattle.std.specs.Prelude.{◌≡◌, ◌≤◌, ℕ, ◌+◌, ◌-◌, ◌||◌, ◌==◌, nat_le, position, List, [], ◌∷◌, ◌++◌, length, take, Bool, Option, Some, None, is_some, option_map, option_and_then, Result, Ok, Err, All, if◌then◌else◌}
 use Rattle.std.specs.List.{slice_split, sum_by, count_by}
 use Rattle.std.specs.Str.{bytes_eq}
 use Rattle.aq_base.specs.declared.DbId.{DbId}
@@ -83,11 +83,19 @@ line_feeds bytes = count_by is_line_feed bytes
 
 -- ---- the script
 
--- past the limit of an input a text is bad at the line of the first byte too many, whatever stands before
+-- the lines of a text but the last one
+abbrev pub lines_before_last : List ℕ → List (List ℕ)
+lines_before_last bytes = take (length (lines_of bytes) - 1) (lines_of bytes)
+
+-- past the limit of an input the line of the first byte too many is bad, where none before it is
+abbrev pub past_limit : List ℕ → Result (List SessionScript) ℕ
+past_limit front = then_on (with_lines 1 [] (lines_before_last front)) (λ sessions. Err (1 + line_feeds front))
+
+-- the sessions in the order in which they are declared, each with its statements, or the number of the first bad line
 unfoldable pub script : List ℕ → Result (List SessionScript) ℕ
 script bytes = if nat_le (length bytes) INPUT_LIMIT
     then with_lines 1 [] (lines_of bytes)
-    else Err (1 + line_feeds (take INPUT_LIMIT bytes))
+    else past_limit (take INPUT_LIMIT bytes)
 
 -- the fault is the first bad line, or memory ran out
 abbrev pub IsFaultOf : {A : Type 0} → ScriptFault → Result A ℕ → Type 0
@@ -107,9 +115,13 @@ pub record AreWithinLimits (scripts : List SessionScript) : Type 0 where
 
 -- ---- what is left of a text to be read
 
-abbrev pub lines_left : Option (List ℕ) → List (List ℕ)
-lines_left None = []
-lines_left (Some text) = lines_of text
+-- of a whole text all lines, of the front of a longer one those with a line feed behind them
+abbrev pub lines_in : Bool → List ℕ → List (List ℕ)
+lines_in whole text = if whole then lines_of text else lines_before_last text
+
+abbrev pub lines_left : Bool → Option (List ℕ) → List (List ℕ)
+lines_left whole None = []
+lines_left whole (Some text) = lines_in whole text
 
 -- more than the number of lines that are left
 abbrev pub room_of : Option (List ℕ) → ℕ
