@@ -37,7 +37,8 @@ fn copied(
     requires group { stamp.group ≡ there.now.transaction }
     requires transaction { there.now.transaction ≤ 2 ^ 61 }
     requires moment { stamp.moment ≤ 2 ^ 62 }
-    ensures { IfOk result (λ a. arriving_by there.now at.now (dispatch_by sent.entry) stamp.id stamp.moment None ≡ meant a) }
+    ensures { IfOk result (λ a.
+        arriving_by there.now at.now (dispatch_by sent.entry) stamp.id stamp.moment None ≡ meant a) }
 {
     let alloc = there.seen.allocator();
     Ok(Arriving {
@@ -116,7 +117,8 @@ pub fn arrive<O: MessageTables, T: MessageTables>(
     requires failures { IfSome (dispatch (O.tables origin.now) at.now) (λ d. d.schedule.failures ≤ 15) }
     requires transaction { (T.tables there.now).transaction ≤ 2 ^ 61 }
     requires moment { moment ≤ 2 ^ 62 }
-    ensures { IfOk result (λ a. arrival_of (O.tables origin.now) at.now (T.tables there.now) next moment ≡ Some (meant a)) }
+    ensures { IfOk result (λ a.
+        arrival_of (O.tables origin.now) at.now (T.tables there.now) next moment ≡ Some (meant a)) }
 {
     let Some(sent) = sent_at(origin, at) else {
         unreachable!()

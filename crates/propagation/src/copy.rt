@@ -65,7 +65,8 @@ fn place_of(
     requires id { stamp.id < 2 ^ 61 }
     requires group { stamp.group ≤ 2 ^ 61 }
     requires moment { stamp.moment ≤ 2 ^ 62 }
-    ensures { IfOk result (λ place. place ≡ place_of (if table.now.grouped then pos stamp.group else pos 0) table.now.columns priority stamp.moment stamp.moment stamp.id) }
+    ensures { IfOk result (λ place. let lane = if table.now.grouped then pos stamp.group else pos 0 in
+        place ≡ place_of lane table.now.columns priority stamp.moment stamp.moment stamp.id) }
 {
     let values = column_values(alloc, &table.columns, priority, stamp.moment)?;
     Place::of(alloc, lane(table, stamp.group), values.as_slice(), stamp.id)

@@ -29,7 +29,8 @@ fn can_send_slot(schedule: &ScheduleRow, moment: u64, message: &MsgRow, slot: u3
 
 fn first_recipient(schedule: &ScheduleRow, moment: u64, message: &MsgRow) -> Option<u32>
     requires { HasFewSlots message.now }
-    ensures { result ≡ find (can_send_slot schedule.now moment message.now) (range_with_len 1 (recipient_count message.now)) }
+    ensures { result ≡ find (can_send_slot schedule.now moment message.now)
+        (range_with_len 1 (recipient_count message.now)) }
 {
     let end = message.recipient_count() as u32 + 1;
     (1..end).find(|slot| can_send_slot(schedule, moment, message, *slot))
@@ -37,7 +38,8 @@ fn first_recipient(schedule: &ScheduleRow, moment: u64, message: &MsgRow) -> Opt
 
 // Slot 0 of a moved message, if it can be sent.
 fn slot_zero(schedule: &ScheduleRow, moment: u64, message: &MsgRow) -> Option<u32>
-    ensures { result ≡ find (can_send_slot schedule.now moment message.now) (if message.now.moved then 0 ∷ [] else []) }
+    ensures { result ≡ find (can_send_slot schedule.now moment message.now)
+        (if message.now.moved then 0 ∷ [] else []) }
 {
     if message.moved && can_send_slot(schedule, moment, message, 0) {
         Some(0)

@@ -104,7 +104,8 @@ pub(crate) fn start_queue(
     enqueue: Option<bool>,
     dequeue: bool,
 ) -> Result<List<Change>, CatalogFault>
-    ensures changes { IfOk result (λ changes. start (find_queue tables.now queue.now) enqueue dequeue ≡ Ok changes) }
+    ensures changes { IfOk result
+        (λ changes. start (find_queue tables.now queue.now) enqueue dequeue ≡ Ok changes) }
     ensures refused { IfErr result (Refuses (start (find_queue tables.now queue.now) enqueue dequeue)) }
 {
     let Some(row) = find_queue(tables, queue) else {
@@ -133,7 +134,8 @@ pub(crate) fn stop_queue(
     enqueue: bool,
     dequeue: bool,
 ) -> Result<List<Change>, CatalogFault>
-    ensures changes { IfOk result (λ changes. stop (find_queue tables.now queue.now) enqueue dequeue ≡ Ok changes) }
+    ensures changes { IfOk result
+        (λ changes. stop (find_queue tables.now queue.now) enqueue dequeue ≡ Ok changes) }
     ensures refused { IfErr result (Refuses (stop (find_queue tables.now queue.now) enqueue dequeue)) }
 {
     let Some(row) = find_queue(tables, queue) else {

@@ -33,7 +33,8 @@ fn drop_slot(
     slot: &SlotRow,
     moment: u64,
 ) -> Result<(), AllocError>
-    ensures { OnOk result (changes.new ≡ changes.old ++ option_to_list (dropped_slot sub.now moment id (number, slot.now))) }
+    ensures { OnOk result (changes.new
+        ≡ changes.old ++ option_to_list (dropped_slot sub.now moment id (number, slot.now))) }
 {
     if is_slot_of(sub, slot) && slot.state.is_open() {
         return changes.push(Change::Dropped {

@@ -39,7 +39,8 @@ pub(crate) fn schedule(
     moment: u64,
 ) -> Result<List<Change>, CatalogFault>
     ensures changes { IfOk result (λ changes. judged tables.now
-        (asks.Schedule queue.now to.now times.start times.duration times.period times.latency) moment ≡ Ok changes) }
+        (asks.Schedule queue.now to.now times.start times.duration times.period times.latency) moment
+        ≡ Ok changes) }
     ensures refused { IfErr result (Refuses (judged tables.now
         (asks.Schedule queue.now to.now times.start times.duration times.period times.latency) moment)) }
 {
@@ -129,7 +130,8 @@ pub(crate) fn disable_schedule(
     to: &Name,
 ) -> Result<List<Change>, CatalogFault>
     ensures changes { IfOk result (λ changes.
-        change_schedule tables.now queue.now to.now (λ s. PutSchedule (record s { enabled = false })) ≡ Ok changes) }
+        change_schedule tables.now queue.now to.now (λ s. PutSchedule (record s { enabled = false }))
+        ≡ Ok changes) }
     ensures refused { IfErr result (Refuses
         (change_schedule tables.now queue.now to.now (λ s. PutSchedule (record s { enabled = false })))) }
 {

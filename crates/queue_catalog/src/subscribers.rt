@@ -63,7 +63,8 @@ pub(crate) fn add_subscriber(
     rule: &Option<Text>,
 ) -> Result<List<Change>, CatalogFault>
     ensures changes { IfOk result (λ changes.
-        add_subscriber tables.now (find_queue tables.now queue.now) name.now address.now rule.now ≡ Ok changes) }
+        add_subscriber tables.now (find_queue tables.now queue.now) name.now address.now rule.now
+        ≡ Ok changes) }
     ensures refused { IfErr result (Refuses
         (add_subscriber tables.now (find_queue tables.now queue.now) name.now address.now rule.now)) }
 {

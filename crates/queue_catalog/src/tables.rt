@@ -100,7 +100,8 @@ pub(crate) fn drop_table(
     tables: &Tables,
     table: &Name,
 ) -> Result<List<Change>, CatalogFault>
-    ensures changes { (now : ℕ) → IfOk result (λ changes. judged tables.now (asks.DropTable table.now) now ≡ Ok changes) }
+    ensures changes { (now : ℕ) → IfOk result
+        (λ changes. judged tables.now (asks.DropTable table.now) now ≡ Ok changes) }
     ensures refused { (now : ℕ) → IfErr result (Refuses (judged tables.now (asks.DropTable table.now) now)) }
 {
     if find_table(tables, table).is_none() {

@@ -32,7 +32,8 @@ fn wanting(
     kind: &RecordType,
     facts: &Facts,
 ) -> Result<List<Agent>, AllocError>
-    ensures { IfOk result (λ agents. agents ≡ map subscribed (wanting tables.now queue.now kind.now facts.now)) }
+    ensures { IfOk result
+        (λ agents. agents ≡ map subscribed (wanting tables.now queue.now kind.now facts.now)) }
 {
     let mut agents = List::new(alloc);
     for sub in &tables.subs {

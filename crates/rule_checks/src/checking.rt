@@ -36,7 +36,8 @@ pub fn read_checked(
     text: Option<&Text>,
     kind: &RecordType,
 ) -> Result<Option<Cond>, CheckFault>
-    ensures ok { IfOk result (λ condition. optional_condition kind.now (option_copied text.entry) ≡ Ok condition) }
+    ensures ok { IfOk result
+        (λ condition. optional_condition kind.now (option_copied text.entry) ≡ Ok condition) }
     ensures told { IfErr result (λ e. IsToldOf e (optional_condition kind.now (option_copied text.entry))) }
 {
     match text {

@@ -21,7 +21,8 @@ fn line_end(text: &[u8]) -> Option<usize>
 
 /// The first line of a text, and what stands behind its line feed if it has one.
 fn cut_line(text: &[u8]) -> (&[u8], Option<&[u8]>)
-    ensures lines { lines_of text.now ≡ result.0.now ∷ lines_left true (option_map (λ rest. rest.now) result.1) }
+    ensures lines { lines_of text.now
+        ≡ result.0.now ∷ lines_left true (option_map (λ rest. rest.now) result.1) }
     ensures shorter { room_of (option_map (λ rest. rest.now) result.1) ≤ length text.now }
 {
     match line_end(text) {
@@ -35,8 +36,8 @@ fn cut_line(text: &[u8]) -> (&[u8], Option<&[u8]>)
 fn next_line(left: Option<&[u8]>, is_whole: bool) -> Option<(&[u8], Option<&[u8]>)>
     ensures some { IfSome result (λ next. lines_left is_whole (option_map (λ rest. rest.now) left.entry)
         ≡ next.0.now ∷ lines_left is_whole (option_map (λ rest. rest.now) next.1)) }
-    ensures shorter { IfSome result
-        (λ next. room_of (option_map (λ rest. rest.now) next.1) < room_of (option_map (λ rest. rest.now) left.entry)) }
+    ensures shorter { IfSome result (λ next.
+        room_of (option_map (λ rest. rest.now) next.1) < room_of (option_map (λ rest. rest.now) left.entry)) }
     ensures none { IfNone result (lines_left is_whole (option_map (λ rest. rest.now) left.entry) ≡ []) }
 {
     let (line, behind) = cut_line(left?);

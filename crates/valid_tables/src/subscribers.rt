@@ -50,7 +50,8 @@ fn is_right_rule(table: Option<&TableRow>, rule: &Cond) -> Result<bool, AllocErr
 }
 
 fn has_right_rule(catalog: &Catalog<'_>, sub: &SubRow) -> Result<bool, AllocError>
-    ensures { IfOk result (λ right. right ≡ if_some (is_right_rule (table_of catalog.now sub.now.queue)) sub.now.rule) }
+    ensures { IfOk result (λ right.
+        right ≡ if_some (is_right_rule (table_of catalog.now sub.now.queue)) sub.now.rule) }
 {
     match &sub.rule {
         Some(rule) => is_right_rule(catalog.table_of(&sub.queue), rule),

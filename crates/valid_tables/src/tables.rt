@@ -18,7 +18,8 @@ fn is_default_exception(table: &Name, queue: &QueueRow) -> bool
 
 fn has_default_exception(catalog: &Catalog<'_>, table: &Name) -> Result<bool, AllocError>
     ensures { IfOk result (λ has. has
-        ≡ option_map_or (is_default_exception table.now) (find_queue catalog.now (exception_name table.now)) false) }
+        ≡ option_map_or (is_default_exception table.now)
+        (find_queue catalog.now (exception_name table.now)) false) }
 {
     let name = table.with_suffix("_e")?;
     match catalog.queue(&name) {
