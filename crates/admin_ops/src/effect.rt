@@ -20,7 +20,8 @@ fn effect_of<T: MessageTables>(
     changes: List<Change>,
     hindered: bool,
 ) -> Result<Effect, AllocError>
-    ensures means { IfOk result (HasMeaning (λ s. administered (T.tables store.now) s hindered (Ok changes))) }
+    ensures means { IfOk result
+        (HasMeaning (λ s. administered (T.tables store.now) s hindered (Ok changes))) }
     ensures plain { IfOk result IsPlain }
 {
     if hindered {
