@@ -1,2 +1,4 @@
+pub mod Changing
+pub mod Inserting
 pub mod Putting
 pub mod Taking

@@ -99,7 +99,7 @@ pub or_true : (a b : Bool) → b ≡ true → (a || b) ≡ true
 or_true true b e = refl
 or_true false b e = e
 
-any_weaker : {T : Type 0} (p q : T → Bool) → ((x : T) → p x ≡ true → q x ≡ true) → (xs : List T) → list_any p xs ≡ true → list_any q xs ≡ true
+pub any_weaker : {T : Type 0} (p q : T → Bool) → ((x : T) → p x ≡ true → q x ≡ true) → (xs : List T) → list_any p xs ≡ true → list_any q xs ≡ true
 any_weaker p q h [] e = cc e
 any_weaker p q h (x ∷ xs) e =
     let P : Bool → Type 0 = λ b. p x ≡ b → (b || list_any p xs) ≡ true → (q x || list_any q xs) ≡ true in

@@ -1,3 +1,3 @@
 pub mod Edits
-pub mod Keys
+pub mod Putting
 pub mod Taking

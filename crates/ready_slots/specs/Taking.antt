@@ -5,8 +5,7 @@ use Rattle.queue_rows.specs.declared.rows.MsgRow.{MsgRow}
 use Rattle.queue_rows.specs.declared.rows.SlotRow.{SlotRow}
 use Rattle.sort_index.specs.Ready.{is_of, key, rows_of}
 use Rattle.sort_index.specs.declared.group.Group.{Group}
-use Rattle.row_tree.specs.Order.{put_in_order}
-use Rattle.choice_laws.specs.Entries.{Row, row_cmp, without_row}
+use Rattle.choice_laws.specs.Entries.{Row, without_row}
 use Rattle.message_choice.specs.Indexed.{stamped}
 
 -- the rows of a queue and consumer, without their slots
@@ -30,12 +29,3 @@ is_named queue slots q c = list_any (λ s. is_of q c (key queue s.name)) slots
 abbrev pub TakesEach : MsgRow → ℕ → (before after : List Group) → Type 0
 TakesEach m stamp before after = (q : List ℕ) (c : Option (List ℕ))
     → told q c after ≡ taken_where (is_named m.queue m.slots q c) (record { place = m.place; stamp = stamp }) (told q c before)
-
--- the rows with that one, where the flag says so
-abbrev pub put_where : Bool → Row → List Row → List Row
-put_where comes row rows = cond comes (put_in_order row_cmp row (without_row row rows)) rows
-
--- a queue and a consumer have the row, and every other one has what it had
-abbrev pub PutsRow : List ℕ → Option (List ℕ) → List ℤ → ℕ → (before after : List Group) → Type 0
-PutsRow queue consumer place stamp before after = (q : List ℕ) (c : Option (List ℕ))
-    → told q c after ≡ put_where (is_of q c (key queue consumer)) (record { place = place; stamp = stamp }) (told q c before)

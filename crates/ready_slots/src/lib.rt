@@ -1,10 +1,10 @@
 //! The index of ready slots, kept beside messages that stand under stamps.
 #![tactic(auto)]
 
-mod key;
+mod laws;
 mod showing;
 mod slots;
 
-pub use key::Key;
+pub use laws::{changed_by_both, last_put, nothing_indexed};
 pub use showing::shown;
 pub use slots::ReadySlots;

@@ -4,6 +4,7 @@ ghost use Rattle.std.specs.List.{list_any};
 ghost use Rattle.queue_rows.specs.Dequeueing.{is_local_for};
 ghost use Rattle.queue_rows.specs.Settling.{is_ready};
 ghost use Rattle.choice_laws.specs.Entries.{shows};
+ghost use Rattle.ready_slots.specs.Putting.{offered_to};
 
 use payload_records::{List, Name};
 use queue_rows::{MsgRow, SlotRow};
@@ -27,5 +28,16 @@ pub fn shown(message: &MsgRow, consumer: Option<&Name>) -> bool
     match consumer {
         None => message.is_slot_ready(1) || message.is_slot_ready(0),
         Some(consumer) => has_offer(consumer, &message.slots),
+    }
+}
+
+/// The consumer that the slot names, where the slot is local and ready.
+pub(crate) fn offered_to(slot: &SlotRow) -> Option<&Name>
+    ensures { option_copied result ≡ offered_to slot.now }
+{
+    if slot.address.is_none() && slot.state.is_ready() {
+        slot.name.as_ref()
+    } else {
+        None
     }
 }

@@ -8,8 +8,4 @@ abbrev pub invariant-loop-slot : goal.invariant-loop-slot
 invariant-loop-slot l =
     let m = l.message in
     let row : Row = record { place = m.place; stamp = l.stamp } in
-    record {
-      rows : (q : List ℕ) (c : Option (List ℕ)) → taken_where (is_named m.queue l.slot-iterator q c) row (told q c l.self.groups)
-          ≡ taken_where (is_named m.queue m.slots q c) row (told q c l.fn.self.groups);
-      room : l.self.spare ≡ l.fn.self.spare;
-    }
+    (q : List ℕ) (c : Option (List ℕ)) → taken_where (is_named m.queue l.slot-iterator q c) row (told q c l.self) ≡ taken_where (is_named m.queue m.slots q c) row (told q c l.fn.self)

@@ -1,0 +1,5 @@
+use Rattle.ready_slots.proofs.Changing.{nothing_indexed}
+use Rattle.ready_slots.proofs.laws.nothing_indexed.Goals as goal
+
+pub returns : goal.returns
+returns c = nothing_indexed
