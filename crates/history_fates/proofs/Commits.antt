@@ -17,7 +17,7 @@ use Rattle.queue_rows.specs.declared.history.Entry.{Entry}
 use Rattle.fate_laws.specs.Made.{changes_at, commit_at, commits_of, changes_of, after_commits}
 use Rattle.history_fates.specs.LegalFates.{all_fit}
 
-empty_if : {X : Type 0} (xs : List X) → (length xs == 0) ≡ true → xs ≡ []
+pub empty_if : {X : Type 0} (xs : List X) → (length xs == 0) ≡ true → xs ≡ []
 empty_if [] e = refl
 empty_if (x ∷ xs) e = absurd (let no : suc (length xs) ≡ 0 = eqb-true (length (x ∷ xs)) 0 e in omega (arith, no))
 

@@ -1,9 +1,14 @@
+pub mod Admitting
 pub mod Arriving
 pub mod Commits
 pub mod Copying
 pub mod Example
 pub mod Giving
 pub mod Lasting
+pub mod Looking
 pub mod Making
+pub mod Marking
 pub mod Seeing
+pub mod Sending
+pub mod Staying
 pub mod Telling

@@ -48,7 +48,7 @@ use Rattle.history_fates.proofs.Giving.{IsOwn, Gives, added_below, answered_give
 -- ---- what a step makes of a database
 
 -- the world has one entry more, and at the database it commits these changes and takes so many ids
-record Behind (db : DbId) (w new : World) (cs : List Change) (taken : ℕ) : Type 0 where
+pub record Behind (db : DbId) (w new : World) (cs : List Change) (taken : ℕ) : Type 0 where
   pub entry : Entry
   pub entries : new.entries ≡ w.entries ++ entry ∷ []
   pub changes : changes_at db entry ≡ cs
@@ -170,13 +170,13 @@ abbrev ids_for : DbId → DbId → ℕ → ℕ
 ids_for at db taken = if is_same_db at db then taken else 0
 
 module _ (w : World) (i : ℕ) (s : Session) (reply : Reply) (cs : List Change) (after : Session) where
-  abbrev step_at : DbId → World
+  abbrev pub step_at : DbId → World
   step_at at = stepped i w (at_home at cs) (at_away at cs) (Call (s.next + 1) reply)
 
-  abbrev world_at : DbId → World
+  abbrev pub world_at : DbId → World
   world_at at = taking_ids at (ids_taken reply) (step_at at)
 
-  abbrev called_at : DbId → World
+  abbrev pub called_at : DbId → World
   called_at at = called_in (world_at at) i s after
 
   call_behind : (at db : DbId) → Behind db w (called_at at) (for_db at db cs) (ids_for at db (ids_taken reply))
@@ -186,43 +186,43 @@ module _ (w : World) (i : ℕ) (s : Session) (reply : Reply) (cs : List Change) 
   call_behind Away Home = record { entry = entry_of i w [] cs (Call (s.next + 1) reply); entries = refl; changes = refl; moment = refl; tables = refl; count = refl; next = omega arith }
   call_behind Away Away = record { entry = entry_of i w [] cs (Call (s.next + 1) reply); entries = refl; changes = refl; moment = refl; tables = refl; count = refl; next = refl }
 
-  call_sessions : (at : DbId) → (called_at at).sessions ≡ slice_set w.sessions i (having_called (world_at at) s after)
+  pub call_sessions : (at : DbId) → (called_at at).sessions ≡ slice_set w.sessions i (having_called (world_at at) s after)
   unfolding stepped
   call_sessions Home = refl
   call_sessions Away = refl
 
-  own_behind : (at : DbId) → Behind at w (called_at at) cs (ids_taken reply)
+  pub own_behind : (at : DbId) → Behind at w (called_at at) cs (ids_taken reply)
   own_behind Home = call_behind Home Home
   own_behind Away = call_behind Away Away
 
-  other_behind : (at db : DbId) → is_same_db at db ≡ false → Behind db w (called_at at) [] 0
+  pub other_behind : (at db : DbId) → is_same_db at db ≡ false → Behind db w (called_at at) [] 0
   other_behind Home Home e = absurd (true≢false e)
   other_behind Home Away e = call_behind Home Away
   other_behind Away Home e = call_behind Away Home
   other_behind Away Away e = absurd (true≢false e)
 
-own_db : (db : DbId) → is_same_db db db ≡ true
+pub own_db : (db : DbId) → is_same_db db db ≡ true
 own_db Home = refl
 own_db Away = refl
 
 -- ---- steps that commit nothing
 
 module _ (actor : ℕ) (w : World) (step : Step) where
-  still_behind : (i : ℕ) (behind : Session) (db : DbId) → Behind db w (with_session i behind (stepped actor w [] [] step)) [] 0
+  pub still_behind : (i : ℕ) (behind : Session) (db : DbId) → Behind db w (with_session i behind (stepped actor w [] [] step)) [] 0
   unfolding stepped
   still_behind i behind Home = record { entry = entry_of actor w [] [] step; entries = refl; changes = refl; moment = refl; tables = refl; count = refl; next = omega arith }
   still_behind i behind Away = record { entry = entry_of actor w [] [] step; entries = refl; changes = refl; moment = refl; tables = refl; count = refl; next = omega arith }
 
-  durable_behind : (db : DbId) → Behind db w (all_durable (stepped actor w [] [] step)) [] 0
+  pub durable_behind : (db : DbId) → Behind db w (all_durable (stepped actor w [] [] step)) [] 0
   unfolding stepped
   durable_behind Home = record { entry = entry_of actor w [] [] step; entries = refl; changes = refl; moment = refl; tables = refl; count = refl; next = omega arith }
   durable_behind Away = record { entry = entry_of actor w [] [] step; entries = refl; changes = refl; moment = refl; tables = refl; count = refl; next = omega arith }
 
-  still_sessions : (i : ℕ) (behind : Session) → (with_session i behind (stepped actor w [] [] step)).sessions ≡ slice_set w.sessions i behind
+  pub still_sessions : (i : ℕ) (behind : Session) → (with_session i behind (stepped actor w [] [] step)).sessions ≡ slice_set w.sessions i behind
   unfolding stepped
   still_sessions i behind = refl
 
-  durable_sessions : (all_durable (stepped actor w [] [] step)).sessions ≡ w.sessions
+  pub durable_sessions : (all_durable (stepped actor w [] [] step)).sessions ≡ w.sessions
   unfolding stepped
   durable_sessions = refl
 

@@ -7,6 +7,7 @@ use Rattle.queue_rows.specs.Tables.{after_change}
 use Rattle.queue_rows.specs.Session.{is_same_db}
 use Rattle.queue_rows.specs.Propagating.{Dispatch, dispatch, arriving, is_pair, has_seen}
 use Rattle.queue_rows.specs.Legal.{IsLegalHistory}
+use Rattle.queue_rows.specs.Valid.{is_valid}
 use Rattle.queue_rows.specs.declared.tables.Tables.{Tables}
 use Rattle.queue_rows.specs.declared.rows.MsgRow.{MsgRow}
 use Rattle.queue_rows.specs.declared.rows.SlotRow.{SlotRow}
@@ -20,6 +21,7 @@ use Rattle.queue_rows.specs.declared.history.Step.TheVariants.{Arrive}
 use Rattle.queue_rows.specs.declared.history.Entry.{Entry}
 use Rattle.queue_rows.specs.declared.history.History.{History}
 use Rattle.queue_rows.specs.declared.history.SessionScript.{SessionScript}
+use Rattle.valid_laws.specs.ArrivalLaws.{MayTakeIn}
 use Rattle.fate_laws.specs.Made.{changes_at, commits_of, changes_of, after_commits, opening_of}
 use Rattle.world_laws.specs.WorldLaws.{MayBegin}
 use Rattle.history_fates.specs.LegalFates.{all_fit}
@@ -75,6 +77,11 @@ pub record IsCopy (t there : Tables) (at : SlotRef) (id : ℕ) (cs : List Change
 abbrev pub ArrivingCopies : Type 0
 ArrivingCopies = (t there : Tables) (at : SlotRef) (d : Dispatch) (next moment id : ℕ) → dispatch t at ≡ Some d
     → (arriving there at d next moment).outcome ≡ Copied id → IsCopy t there at id (arriving there at d next moment).there
+
+-- and the copy may be taken in, where the slot is sent of valid tables and the id is one that the destination has not passed
+abbrev pub CopyMayBeTakenIn : Type 0
+CopyMayBeTakenIn = (t there : Tables) (at : SlotRef) (d : Dispatch) (next moment id : ℕ) → is_valid t ≡ true → there.next ≤ next → dispatch t at ≡ Some d
+    → (arriving there at d next moment).outcome ≡ Copied id → MayTakeIn there at d.parcel next moment
 
 -- ---- arrivals in a history
 

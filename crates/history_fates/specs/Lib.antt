@@ -2,3 +2,4 @@ pub mod Arrivals
 pub mod Durability
 pub mod Examples
 pub mod LegalFates
+pub mod LocalMarks

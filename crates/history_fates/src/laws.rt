@@ -1,6 +1,7 @@
 // Laws of legal histories, over the definitions of `queue_rows`, each a function without a body.
 ghost use Rattle.history_fates.specs.Arrivals.{
   ArrivingCopies,
+  CopyMayBeTakenIn,
   FittingHasArrivals,
   FittingSeesOnce,
   LegalHasArrivals,
@@ -15,6 +16,13 @@ ghost use Rattle.history_fates.specs.LegalFates.{
   LegalEndsIn,
   LegalHasFates,
   LegalIsMade,
+};
+ghost use Rattle.history_fates.specs.LocalMarks.{
+  DequeueMarksLocal,
+  LegalMarksLocal,
+  LocalStays,
+  SentConfirmationKeepsStanding,
+  SentIsRemote,
 };
 
 /// What a call commits in a valid world is proper.
@@ -98,4 +106,34 @@ pub fn example_is_put()
 /// One in which a slot is sent to the other database fits, and its arrival is as it is to be.
 pub fn example_is_sent()
     ensures { ExampleIsSent }
+{}
+
+/// Proper changes send no slot to the other database, unless they put its message in.
+pub fn local_stays()
+    ensures { LocalStays }
+{}
+
+/// A dequeue marks no slot that goes to the other database.
+pub fn dequeue_marks_local()
+    ensures { DequeueMarksLocal }
+{}
+
+/// So in a legal history no session has marked one.
+pub fn legal_marks_local()
+    ensures { LegalMarksLocal }
+{}
+
+/// What is sent of valid tables is a slot that goes to the other database.
+pub fn sent_is_remote()
+    ensures { SentIsRemote }
+{}
+
+/// So what sessions hold stands behind the confirmation of a slot that was sent.
+pub fn sent_confirmation_keeps_standing()
+    ensures { SentConfirmationKeepsStanding }
+{}
+
+/// The copy with which an arrival ends may be taken in, where the slot was sent of valid tables.
+pub fn copy_may_be_taken_in()
+    ensures { CopyMayBeTakenIn }
 {}

@@ -76,11 +76,11 @@ second false b e h = h
 -- ---- which message is chosen
 
 module _ (Q : MsgRow → Type 0) where
-  abbrev Holds : Option MsgRow → Type 0
+  abbrev pub Holds : Option MsgRow → Type 0
   Holds None = Unit {0}
   Holds (Some m) = Q m
 
-  abbrev Chooses : d.Choice → Type 0
+  abbrev pub Chooses : d.Choice → Type 0
   Chooses (d.found m) = Q m
   Chooses d.end_of_group = Unit {0}
   Chooses d.nothing = Unit {0}
@@ -109,7 +109,7 @@ module _ (Q : MsgRow → Type 0) where
       (cond_both (d.is_browse mode) d.nothing (d.found_or d.nothing (d.least ms)) Chooses (λ e. tt) (λ e. first_chooses ms h))
       (least_holds (d.past p ms) (each_filter Q (d.is_past p) ms h))
 
-  choice_chooses : (navigation : Navigation) (at : Option Position) (grouped : Bool) (mode : Mode) (ms : List MsgRow) → Each Q ms → Chooses (d.choice navigation at grouped mode ms)
+  pub choice_chooses : (navigation : Navigation) (at : Option Position) (grouped : Bool) (mode : Mode) (ms : List MsgRow) → Each Q ms → Chooses (d.choice navigation at grouped mode ms)
   choice_chooses navigations.First at grouped mode ms h = first_chooses ms h
   choice_chooses navigations.Next None grouped mode ms h = first_chooses ms h
   choice_chooses navigations.Next (Some p) true mode ms h =

@@ -211,7 +211,7 @@ module _ (w : World) (i : ℕ) (s : Session) (reply : Reply) (cs : List Change) 
 
 -- ---- what a script asks
 
-all_at : {X : Type 0} (q : X → Bool) (xs : List X) (i : ℕ) (x : X) → list_all q xs ≡ true → slice_get xs i ≡ Some x → q x ≡ true
+pub all_at : {X : Type 0} (q : X → Bool) (xs : List X) (i : ℕ) (x : X) → list_all q xs ≡ true → slice_get xs i ≡ Some x → q x ≡ true
 all_at q [] i x h e = absurd (none-some x e)
 all_at q (y ∷ ys) zero x h e = let same : y ≡ x = (let a : Some y ≡ Some x = e in cc) in ap q (sym same) ∙ (and_parts (q y) (list_all q ys) h).0
 all_at q (y ∷ ys) (suc i) x h e = all_at q ys i x (and_parts (q y) (list_all q ys) h).1 e
