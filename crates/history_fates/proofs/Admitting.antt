@@ -1,10 +1,10 @@
 -- What arrives as a copy may be taken in.
-use Rattle.std.proofs.Common.{◌≡◌, ◌≤◌, ◌<◌, ◌-◌, ℕ, suc, List, [], ◌∷◌, Bool, true, false, not, refl, sym, ap, ◌∙◌, arith, Option, Some, None, ◌==◌, ◌&&◌, length}
+use Rattle.std.proofs.Common.{◌≡◌, ◌≤◌, ◌-◌, ℕ, suc, List, [], ◌∷◌, Bool, true, false, not, refl, sym, ap, ◌∙◌, arith, Option, Some, None, ◌==◌, ◌&&◌, length}
 use Rattle.std.specs.Prelude.{option_and_then, is_some, nat_le, zip, take, ◌^◌, if◌then◌else◌}
 use Rattle.std.specs.List.{list_all}
 use Rattle.std.specs.Str.{bytes_eq}
 use Rattle.std.proofs.Math.Seq.{take-length}
-use Rattle.std.proofs.lemmas.Bool.{eqb-true, eq-eqb, and_parts, and_from, not-false, leb-false, false≢true, true≢false}
+use Rattle.std.proofs.lemmas.Bool.{eqb-true, eq-eqb, and_parts, and_from, not-false, leb-false, false≢true}
 use Rattle.std.proofs.lemmas.Option.{none-some}
 use Rattle.payload_records.specs.declared.kind.Kind.{Kind}
 use Rattle.payload_records.specs.declared.kind.Kind.TheVariants as field_kinds
@@ -25,7 +25,7 @@ use Rattle.queue_rows.specs.declared.history.Arrival.TheVariants.{Copied, Seen, 
 use Rattle.row_laws.proofs.Slots.{slot_at}
 use Rattle.valid_laws.specs.ArrivalLaws.{MayTakeIn}
 use Rattle.world_laws.proofs.Worlds.{all_at}
-use Rattle.history_fates.proofs.Sending.{IsSentBy, by_message, IsRightIn, StandsNormal, sent_normal}
+use Rattle.history_fates.proofs.Sending.{IsSentBy, by_message, StandsNormal, sent_normal}
 
 -- ---- no cause stands against it
 

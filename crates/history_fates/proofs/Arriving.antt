@@ -1,15 +1,13 @@
 -- Arrivals of a history: each slot once at most, as a copy of its message.
-use Rattle.std.proofs.Common.{◌≡◌, ◌≤◌, ◌+◌, ◌⊎◌, inl, inr, ℕ, suc, List, [], ◌∷◌, ◌++◌, Bool, true, false, refl, sym, ap, ◌∙◌, subst, arith, Option, Some, None, ◌==◌, ◌&&◌, length, length-append, append-nil}
-use Rattle.std.specs.Prelude.{map, count_by, is_some, if◌then◌else◌}
-use Rattle.std.specs.List.{cons_option}
+use Rattle.std.proofs.Common.{◌≡◌, ◌≤◌, ◌⊎◌, inl, inr, ℕ, List, [], ◌∷◌, ◌++◌, true, refl, sym, ap, ◌∙◌, subst, arith, Option, Some, None, ◌==◌, ◌&&◌}
+use Rattle.std.specs.Prelude.{map, count_by, is_some}
 use Rattle.std.proofs.lemmas.Bool.{eq-eqb, and_from}
 use Rattle.std.proofs.lemmas.Option.{none-some}
 use Rattle.std.proofs.lemmas.List.{map-append, append_assoc}
 use Rattle.aq_base.specs.declared.DbId.{DbId}
 use Rattle.aq_base.specs.declared.DbId.TheVariants.{Home, Away}
-use Rattle.queue_rows.specs.Propagating.{Dispatch, dispatch, is_pair, has_seen, arriving}
 use Rattle.queue_rows.specs.World.{World, opened, read_clock, uncounted, entry_of}
-use Rattle.queue_rows.specs.Legal.{MayStep, IsLegal, opens, reads, steps, IsLegalBy, IsLegalHistory}
+use Rattle.queue_rows.specs.Legal.{MayStep, IsLegal, opens, reads, steps, IsLegalHistory}
 use Rattle.queue_rows.specs.declared.tables.Tables.{Tables}
 use Rattle.queue_rows.specs.declared.change.Change.{Change}
 use Rattle.queue_rows.specs.declared.change.Change.TheVariants as changes
@@ -20,7 +18,7 @@ use Rattle.queue_rows.specs.declared.history.SessionScript.{SessionScript}
 use Rattle.queue_rows.specs.declared.history.Step.{Step}
 use Rattle.queue_rows.specs.declared.history.Step.TheVariants.{Call, Park, Timer, Offer, Arrive, Confirm, Told, Flush, End}
 use Rattle.queue_rows.proofs.Adding.{Adds, step_adds}
-use Rattle.fate_laws.specs.Made.{changes_at, commit_at, commits_of, changes_of, after_commits, opening_of}
+use Rattle.fate_laws.specs.Made.{changes_at, commits_of, changes_of, after_commits, opening_of}
 use Rattle.world_laws.specs.WorldLaws.{MayBegin}
 use Rattle.history_fates.specs.LegalFates.{opening_at, all_fit}
 use Rattle.history_fates.specs.Arrivals.{other_db, is_seen_of, IsSeenOnce, IsCopy, copy_by, is_copied, tables_at, ArrivesSo, AreArrivals, IsCopiedOnce, HasArrivals}

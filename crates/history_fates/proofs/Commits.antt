@@ -1,6 +1,6 @@
 -- What one entry more commits.
 use Rattle.std.proofs.Common.{◌≡◌, ℕ, ◌+◌, ◌⊎◌, inl, inr, List, [], ◌∷◌, ◌++◌, Bool, true, false, refl, sym, ap, ◌∙◌, arith, Some, None, ◌==◌, length, append-nil, length-append, suc}
-use Rattle.std.specs.Prelude.{fold, flat_map, count_by, if◌then◌else◌}
+use Rattle.std.specs.Prelude.{fold, count_by, if◌then◌else◌}
 use Rattle.std.specs.List.{cons_option}
 use Rattle.std.proofs.lemmas.Bool.{eqb-true, and_parts, and_from}
 use Rattle.std.proofs.lemmas.Grind.{flat_map-append}

@@ -1,17 +1,16 @@
 -- An arrival that ends with a copy puts a copy of its message in.
-use Rattle.std.proofs.Common.{◌≡◌, ℕ, List, [], ◌∷◌, Bool, true, false, not, refl, sym, ap, ◌∙◌, subst, Option, Some, None}
-use Rattle.std.specs.Prelude.{find, option_and_then, nat_le, if◌then◌else◌, ◌^◌}
+use Rattle.std.proofs.Common.{◌≡◌, ℕ, [], ◌∷◌, Bool, true, false, not, refl, sym, ap, subst, Option, Some, None}
+use Rattle.std.specs.Prelude.{find, option_and_then, if◌then◌else◌}
 use Rattle.std.proofs.lemmas.Option.{none-some}
 use Rattle.queue_rows.specs.Rows.{find_table, find_queue, find_message, slot_of, table_of}
 use Rattle.queue_rows.specs.Settling.{is_exception}
-use Rattle.queue_rows.specs.Propagating.{Parcel, Dispatch, dispatch_by, dispatch_of_slot, dispatch_of, dispatch, is_schedule_of, is_same_type, cause_at_table, cause_at_queue, cause_of, copy_of, copy_slot, taken_in_by, taken_in, is_last_failure, delayed, arriving_by, has_seen, arriving}
+use Rattle.queue_rows.specs.Propagating.{Parcel, Dispatch, dispatch_by, dispatch_of_slot, dispatch_of, dispatch, is_schedule_of, cause_at_table, cause_at_queue, cause_of, copy_of, copy_slot, taken_in_by, taken_in, is_last_failure, arriving_by, has_seen, arriving}
 use Rattle.queue_rows.specs.declared.tables.Tables.{Tables}
 use Rattle.queue_rows.specs.declared.rows.TableRow.{TableRow}
 use Rattle.queue_rows.specs.declared.rows.QueueRow.{QueueRow}
 use Rattle.queue_rows.specs.declared.rows.ScheduleRow.{ScheduleRow}
 use Rattle.queue_rows.specs.declared.rows.MsgRow.{MsgRow}
 use Rattle.queue_rows.specs.declared.rows.SlotRow.{SlotRow}
-use Rattle.queue_rows.specs.declared.change.Change.{Change}
 use Rattle.queue_rows.specs.declared.change.Change.TheVariants as changes
 use Rattle.queue_rows.specs.declared.history.SlotRef.{SlotRef}
 use Rattle.queue_rows.specs.declared.history.Cause.{Cause}

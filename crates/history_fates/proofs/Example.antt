@@ -1,7 +1,7 @@
 -- The histories of the examples are legal, and have what the laws say of them.
 use Rattle.std.proofs.Common.{◌≡◌, ℕ, List, [], ◌∷◌, Bool, true, false, refl, sym, ap, ◌∙◌, subst, Some, None, ◌==◌, ◌&&◌}
 use Rattle.std.specs.Prelude.{codes, if◌then◌else◌}
-use Rattle.std.proofs.lemmas.Bool.{eqb-true, and_parts, true≢false, false≢true}
+use Rattle.std.proofs.lemmas.Bool.{eqb-true, and_parts}
 use Rattle.std.proofs.lemmas.Option.{none-some}
 use Rattle.aq_base.specs.declared.DbId.{DbId}
 use Rattle.aq_base.specs.declared.DbId.TheVariants.{Home, Away}
@@ -13,7 +13,7 @@ use Rattle.queue_rows.specs.Enqueueing.{enqueue}
 use Rattle.queue_rows.specs.Dequeueing.{dequeue}
 use Rattle.queue_rows.specs.Transactions.{commit, rollback}
 use Rattle.queue_rows.specs.Statements.{meaning}
-use Rattle.queue_rows.specs.World.{opened, read_clock, stepped, uncounted}
+use Rattle.queue_rows.specs.World.{opened, read_clock, stepped}
 use Rattle.queue_rows.specs.Turns.{flushed, session_turn, telling_turn, any_live, background_turn, closing_turn}
 use Rattle.queue_rows.specs.Serial.{round, rounds, IsSerial}
 use Rattle.queue_rows.specs.Legal.{IsLegalHistory}
@@ -21,7 +21,6 @@ use Rattle.queue_rows.specs.Propagating.{Dispatch, cause_of, taken_in, arriving}
 use Rattle.queue_rows.specs.Fits.{fits}
 use Rattle.queue_rows.specs.Valid.{is_valid}
 use Rattle.queue_rows.specs.declared.tables.Tables.{Tables}
-use Rattle.queue_rows.specs.declared.history.Entry.{Entry}
 use Rattle.queue_rows.specs.declared.history.History.{History}
 use Rattle.queue_rows.specs.declared.history.SessionScript.{SessionScript}
 use Rattle.queue_rows.specs.declared.history.SlotRef.{SlotRef}
@@ -30,8 +29,8 @@ use Rattle.valid_laws.specs.Examples.{example_message, example_tables, example_l
 use Rattle.statement_laws.proofs.Administering.{same_is}
 use Rattle.fate_laws.specs.Made.{after_commits, opening_of}
 use Rattle.fate_laws.specs.Fates.{fate}
-use Rattle.history_fates.specs.Arrivals.{other_db, is_same_slot, ArrivesSo, AreArrivals}
-use Rattle.history_fates.specs.Examples.{example_taken, example_given_up, example_put, HasFateIn, ExampleIsTaken, ExampleIsGivenUp, ExampleIsPut, sent_ref, offer_entry, arrive_entry, flush_entry, confirm_entry, example_sent, ExampleIsSent}
+use Rattle.history_fates.specs.Arrivals.{other_db, is_same_slot, ArrivesSo}
+use Rattle.history_fates.specs.Examples.{example_taken, example_given_up, example_put, ExampleIsTaken, ExampleIsGivenUp, ExampleIsPut, sent_ref, offer_entry, arrive_entry, flush_entry, confirm_entry, example_sent, ExampleIsSent}
 use Rattle.history_fates.proofs.Arriving.{AreIn, none_in, more_in, left_at}
 
 legal_if_serial : (home away : Tables) (scripts : List SessionScript) (h : History) → IsSerial home away scripts h → IsLegalHistory home away scripts h

@@ -1,15 +1,14 @@
 -- What a statement that is answered commits is proper, and with which ids it puts messages in.
-use Rattle.std.proofs.Common.{◌≡◌, ◌≤◌, ◌<◌, ◌+◌, ◌⊎◌, inl, inr, ℕ, List, [], ◌∷◌, ◌++◌, Bool, true, false, refl, sym, ap, ◌∙◌, subst, arith, Option, Some, Ok, Err, ◌==◌, ◌||◌}
-use Rattle.std.specs.Prelude.{slice_get, nat_lt, All, AllPairs, if◌then◌else◌}
+use Rattle.std.proofs.Common.{◌≡◌, ◌≤◌, ◌<◌, ◌⊎◌, inl, inr, ℕ, List, [], ◌∷◌, ◌++◌, Bool, true, false, refl, sym, ap, ◌∙◌, subst, arith, Option, Some, Ok, Err, ◌==◌}
+use Rattle.std.specs.Prelude.{slice_get, All, AllPairs}
 use Rattle.std.specs.List.{list_any}
-use Rattle.std.proofs.lemmas.Bool.{eqb-true, eq-eqb, ne_eqb, le-ltb, or_left, or_right, or_cases, false≢true}
+use Rattle.std.proofs.lemmas.Bool.{eqb-true, eq-eqb, ne_eqb, or_left, or_right, or_cases, false≢true}
 use Rattle.std.proofs.lemmas.List.Elements.{All-cons, All-nil, All-head, All-tail, All-weaker}
 use Rattle.std.proofs.lemmas.List.Kept.{AllPairs-cons}
 use Rattle.aq_base.specs.declared.DbId.{DbId}
 use Rattle.aq_base.specs.declared.DbId.TheVariants.{Home, Away}
 use Rattle.aq_base.specs.declared.limits.TheConstants.{MOMENT_LIMIT}
 use Rattle.queue_rows.specs.Commits.{commit_of}
-use Rattle.queue_rows.specs.Settling.{settled}
 use Rattle.queue_rows.specs.Session.{Session, is_same_db}
 use Rattle.queue_rows.specs.Meaning.{answers}
 use Rattle.queue_rows.specs.Administration.{is_hindered, administered, administer}
@@ -36,12 +35,12 @@ use Rattle.queue_rows.specs.declared.statement.Statement.TheVariants as statemen
 use Rattle.queue_rows.specs.declared.statement.Visibility.{Visibility}
 use Rattle.queue_rows.specs.declared.statement.Visibility.TheVariants as visibilities
 use Rattle.valid_laws.specs.Touching.{are_proper}
-use Rattle.valid_laws.specs.PendingLaws.{IsAdditionRight, IsPendingRight, AreApart, count_passed, MayCommit}
+use Rattle.valid_laws.specs.PendingLaws.{IsAdditionRight, IsPendingRight, AreApart, MayCommit}
 use Rattle.valid_laws.proofs.Pending.{removal_may, pairs-head, pairs-tail, pairs-one}
 use Rattle.statement_laws.specs.Sessions.{is_addition_of}
 use Rattle.statement_laws.specs.SessionLaws.{IsGiven}
 use Rattle.statement_laws.specs.EnqueueLaws.{AddsIn, Adds}
-use Rattle.statement_laws.specs.StandingLaws.{StandsIn, AreStanding}
+use Rattle.statement_laws.specs.StandingLaws.{AreStanding}
 use Rattle.statement_laws.proofs.Among.{Says, says_so, any_last}
 use Rattle.statement_laws.proofs.Adding.{enqueue_adds_right, not_passed}
 use Rattle.statement_laws.proofs.Taking.{dequeue_removes_open}

@@ -4,7 +4,7 @@ use Rattle.std.specs.Prelude.{map}
 use Rattle.std.specs.List.{cons_option}
 use Rattle.aq_base.specs.declared.DbId.{DbId}
 use Rattle.aq_base.specs.declared.DbId.TheVariants.{Home, Away}
-use Rattle.queue_rows.specs.World.{World, database_at, opened, uncounted}
+use Rattle.queue_rows.specs.World.{World, database_at, uncounted}
 use Rattle.queue_rows.specs.Serial.{Begins}
 use Rattle.queue_rows.specs.Legal.{IsLegalBy, IsLegalHistory}
 use Rattle.queue_rows.specs.Valid.{is_valid}

@@ -1,20 +1,18 @@
 -- A dequeue marks no slot that goes to the other database.
-use Rattle.std.proofs.Common.{◌≡◌, ◌≤◌, ◌<◌, ◌+◌, ◌-◌, ◌⊎◌, inl, inr, ℕ, List, [], ◌∷◌, ◌++◌, Bool, true, false, not, refl, sym, ap, ◌∙◌, subst, arith, Option, Some, None, Result, Ok, Err, ◌==◌, ◌&&◌, ◌||◌, length, get_or}
-use Rattle.std.specs.Prelude.{find, position, slice_get, option_map, is_some, is_none, nat_le, if◌then◌else◌}
+use Rattle.std.proofs.Common.{◌≡◌, ◌+◌, ◌-◌, ◌⊎◌, inl, inr, ℕ, List, Bool, true, false, not, refl, sym, ap, ◌∙◌, arith, Option, Some, None, Result, Ok, Err, ◌==◌, ◌&&◌, ◌||◌, length, get_or}
+use Rattle.std.specs.Prelude.{position, slice_get, is_some, is_none, nat_le, if◌then◌else◌}
 use Rattle.std.specs.List.{list_any, list_all}
 use Rattle.std.specs.Option.{option_map_or}
 use Rattle.std.specs.Str.{bytes_eq}
-use Rattle.std.proofs.lemmas.Bool.{eqb-true, ne_eqb, and_parts, not-true, not-false, false≢true, true≢false}
+use Rattle.std.proofs.lemmas.Bool.{eqb-true, ne_eqb, and_parts, not-false, false≢true, true≢false}
 use Rattle.std.proofs.lemmas.Option.{none-some, slice_get-get_or}
 use Rattle.std.proofs.lemmas.List.Quantifiers.{position-Some}
 use Rattle.rule_conditions.specs.declared.condition.Cond.{Cond}
 use Rattle.slot_marks.specs.Marks.{taken}
-use Rattle.slot_marks.specs.declared.mark.Mark.{Mark}
 use Rattle.queue_rows.specs.Rows.{find_table, find_queue, find_message, has_slot, slot_index, slot_of, recipient_slots}
 use Rattle.queue_rows.specs.Settling.{is_exception}
-use Rattle.queue_rows.specs.Recipients.{has_consumers}
 use Rattle.queue_rows.specs.Conditions.{optional_condition}
-use Rattle.queue_rows.specs.Session.{Session, is_same_consumer, has_removed, marks_slot, without_mark, is_same_db, message_named, position_in}
+use Rattle.queue_rows.specs.Session.{Session, is_same_consumer, has_removed, marks_slot, is_same_db, message_named, position_in}
 use Rattle.queue_rows.specs.Meaning.{answers, parks, unparked, refused, still_waits, first_look}
 use Rattle.queue_rows.specs.Dequeueing as d
 use Rattle.queue_rows.specs.Valid.{is_valid, is_valid_message, is_valid_message_at, is_valid_message_in, is_right_queue, has_right_cells, has_right_ids, has_right_place, has_right_lane, has_right_props, has_right_slots, has_right_recipients, has_right_names, is_nameless, is_right_if_moved, has_right_retries, has_allowed_retries, has_begun}

@@ -1,5 +1,5 @@
 -- Each database of a legal world is what its commits made of it, and they are proper.
-use Rattle.std.proofs.Common.{◌≡◌, ◌≢◌, ◌≤◌, ◌<◌, ◌+◌, ◌⊎◌, inl, inr, ℕ, List, [], ◌∷◌, ◌++◌, Bool, true, false, max, refl, sym, ap, ◌∙◌, subst, arith, Some, None, ◌==◌, length}
+use Rattle.std.proofs.Common.{◌≡◌, ◌≢◌, ◌≤◌, ◌<◌, ◌+◌, ◌⊎◌, inl, inr, ℕ, List, [], ◌++◌, Bool, true, false, refl, sym, ap, ◌∙◌, subst, arith, Some, None, ◌==◌, length}
 use Rattle.std.specs.Prelude.{slice_get, slice_set, map, All, AllPairs, if◌then◌else◌}
 use Rattle.std.specs.List.{list_any}
 use Rattle.std.proofs.lemmas.Bool.{ne_eqb, false≢true, true≢false}
@@ -19,7 +19,6 @@ use Rattle.queue_rows.specs.World.{World, database_at, opened, fresh, read_clock
 use Rattle.queue_rows.specs.Legal.{Calls, MayStep, IsLegal, opens, reads, steps}
 use Rattle.queue_rows.specs.declared.tables.Tables.{Tables}
 use Rattle.queue_rows.specs.declared.change.Change.{Change}
-use Rattle.queue_rows.specs.declared.history.Entry.{Entry}
 use Rattle.queue_rows.specs.declared.history.SessionScript.{SessionScript}
 use Rattle.queue_rows.specs.declared.history.Step.{Step}
 use Rattle.queue_rows.specs.declared.history.Step.TheVariants.{Call, Park, Timer, Offer, Arrive, Confirm, Told, Flush, End}
@@ -41,24 +40,11 @@ use Rattle.world_laws.specs.ValidWorld.{is_ordered, IsValidWorld}
 use Rattle.world_laws.specs.WorldLaws.{MayBegin}
 use Rattle.world_laws.proofs.Answering.{answered_fine}
 use Rattle.world_laws.proofs.Worlds.{fresh_empty, asked, opens_valid, reading_keeps_valid, step_keeps_valid}
-use Rattle.history_fates.specs.LegalFates.{opening_at, changes_so_far, all_fit, IsUnused, IsMade}
+use Rattle.history_fates.specs.LegalFates.{opening_at, changes_so_far, all_fit, IsUnused, AreUnused, IsMade, AddsEntry}
 use Rattle.history_fates.proofs.Commits.{tables-more, changes-more, count-more, fit-more, none-more}
 use Rattle.history_fates.proofs.Giving.{IsOwn, Gives, added_below, answered_gives}
 
 -- ---- what a step makes of a database
-
--- the world has one entry more, and at the database it commits these changes and takes so many ids
-pub record Behind (db : DbId) (w new : World) (cs : List Change) (taken : ℕ) : Type 0 where
-  pub entry : Entry
-  pub entries : new.entries ≡ w.entries ++ entry ∷ []
-  pub changes : changes_at db entry ≡ cs
-  pub moment : entry.moment ≡ w.moment
-  pub tables : (database_at db new).tables ≡ committed_tables (database_at db w).tables cs w.moment
-  pub count : (database_at db new).made ≡ (database_at db w).made + commits_in cs
-  pub next : (database_at db new).next ≡ (database_at db w).next + taken
-
-abbrev AreUnused : Tables → List Change → DbId → List Session → Type 0
-AreUnused opening cs db sessions = (i : ℕ) (s : Session) → slice_get sessions i ≡ Some s → is_same_db s.at db ≡ true → (id : ℕ) → list_any (is_addition_of id) s.pending ≡ true → IsUnused opening cs id
 
 module _ (opening : Tables) (db : DbId) where
   -- a session is replaced by one that has added no more
@@ -74,7 +60,7 @@ module _ (opening : Tables) (db : DbId) where
       by j y at id h (inr p) = held j y p.1 at id h
 
   -- nothing is committed
-  quiet_made : (w new : World) → Behind db w new [] 0 → AreUnused opening (changes_so_far db w) db new.sessions → IsMade opening db w → IsMade opening db new
+  quiet_made : (w new : World) → AddsEntry db w new [] 0 → AreUnused opening (changes_so_far db w) db new.sessions → IsMade opening db w → IsMade opening db new
   quiet_made w new b held m =
       let same : commits_of db new.entries ≡ commits_of db w.entries = ap (commits_of db) b.entries ∙ none-more db w.entries b.entry b.changes in
       let so : changes_so_far db new ≡ changes_so_far db w = ap changes_of same in
@@ -89,23 +75,57 @@ module _ (opening : Tables) (db : DbId) where
         held = λ i s e at id h. subst (λ cs. IsUnused opening cs id) (sym so) (held i s e at id h);
       }
 
-  -- a session of the database commits and takes ids
-  module _ (w new : World) (i taken : ℕ) (s behind : Session) (cs : List Change) (ids : List ℕ) (m : IsMade opening db w) (k : AreStanding (database_at db w).tables db (database_at db w).next w.moment w.sessions) (there : slice_get w.sessions i ≡ Some s)
-      (at : is_same_db s.at db ≡ true) (g : Gives (database_at db w).tables (database_at db w).next taken s behind cs ids) (b : Behind db w new cs taken) where
+  -- changes are committed that put in messages with these ids
+  module _ (w new : World) (taken : ℕ) (cs : List Change) (ids : List ℕ) (m : IsMade opening db w) (b : AddsEntry db w new cs taken) (c : IsProperCommit (database_at db w).tables cs ids) where
     so_far : changes_so_far db new ≡ changes_so_far db w ++ cs
     so_far = ap (λ es. changes_of (commits_of db es)) b.entries ∙ changes-more db w.entries b.entry ∙ ap (λ ds. changes_so_far db w ++ ds) b.changes
 
     ids_so_far : ids_put_in (changes_so_far db new) ≡ ids_put_in (changes_so_far db w) ++ ids
-    ids_so_far = ap ids_put_in so_far ∙ filter_map-append id_put_in (changes_so_far db w) cs ∙ ap (λ xs. ids_put_in (changes_so_far db w) ++ xs) g.commit.ids_are
+    ids_so_far = ap ids_put_in so_far ∙ filter_map-append id_put_in (changes_so_far db w) cs ∙ ap (λ xs. ids_put_in (changes_so_far db w) ++ xs) c.ids_are
 
-    own_later : (id : ℕ) → IsOwn s (database_at db w).next taken id → opening.next ≤ id
-    own_later id (inl h) = (m.held i s there at id h).later
-    own_later id (inr p) = let e = p.0 in let f = m.first in omega (arith, e, f)
+    -- an id that is none of these is as unused as it was
+    unused_more : (id : ℕ) → IsUnused opening (changes_so_far db w) id → All (λ a. (a == id) ≡ false) ids → IsUnused opening (changes_so_far db new) id
+    unused_more id u none = record { later = u.later; new = subst (All (λ a. (a == id) ≡ false)) (sym ids_so_far) (All-append (λ a. (a == id) ≡ false) (ids_put_in (changes_so_far db w)) ids u.new none) }
 
-    own_new : (id : ℕ) → IsOwn s (database_at db w).next taken id → All (λ a. (a == id) ≡ false) (ids_put_in (changes_so_far db w))
-    own_new id (inl h) = (m.held i s there at id h).new
-    own_new id (inr p) =
-        All-weaker (λ a. a < (database_at db w).next) (λ a. (a == id) ≡ false) (λ a lt. ne_eqb a id (λ e. absurd (let q = p.0 in omega (arith, lt, e, q)))) (ids_put_in (changes_so_far db w)) m.given
+    made_proper : AllPairs (λ a e. (a == e) ≡ false) ids → All (IsUnused opening (changes_so_far db w)) ids → AreProper opening (changes_so_far db new)
+    made_proper apart unused =
+        let after = after_commits_latest opening (commits_of db w.entries) in
+        let now : (database_at db w).tables ≡ at_latest after.0 (after_all opening (changes_so_far db w)) = m.tables ∙ after.1 in
+        let new_to : All (λ e. All (λ a. (a == e) ≡ false) (ids_put_in (changes_so_far db w))) ids =
+        All-weaker (IsUnused opening (changes_so_far db w)) (λ e. All (λ a. (a == e) ≡ false) (ids_put_in (changes_so_far db w))) (λ e u. u.new) ids unused in
+        subst (AreProper opening) (sym so_far)
+        (proper_grows opening (changes_so_far db w) cs ids after.0 m.proper (subst (λ t. IsProperCommit t cs ids) now c) apart (All-weaker (IsUnused opening (changes_so_far db w)) (λ id. opening.next ≤ id) (λ id u. u.later) ids unused)
+        (λ j d lt n e le. new_to n e le j d lt))
+
+    commit_made : AllPairs (λ a e. (a == e) ≡ false) ids → All (IsUnused opening (changes_so_far db w)) ids → All (λ id. id < (database_at db w).next + taken) ids → fits (database_at db w).tables (record { moment = w.moment; changes = cs }) ≡ true
+        → AreUnused opening (changes_so_far db new) db new.sessions → IsMade opening db new
+    commit_made apart unused below fit held =
+        let next = b.next in
+        let e = b.entry in
+        record {
+          tables = b.tables ∙ ap (λ t. committed_tables t cs w.moment) m.tables ∙ ap (λ ds. committed_tables (after_commits opening (commits_of db w.entries)) ds w.moment) (sym b.changes)
+              ∙ ap (committed_tables (after_commits opening (commits_of db w.entries)) (changes_at db e)) (sym b.moment) ∙ sym (tables-more db w.entries e opening) ∙ ap (λ es. after_commits opening (commits_of db es)) (sym b.entries);
+          count = let x = b.count in let y = m.count in let z = count-more db w.entries e in let a = ap (λ es. length (commits_of db es)) b.entries in let n = ap commits_in b.changes in omega (arith, x, y, z, a, n);
+          fit = ap (λ es. all_fit opening (commits_of db es)) b.entries
+              ∙ fit-more db w.entries e opening m.fit (ap (λ t. fits t (record { moment = e.moment; changes = changes_at db e })) (sym m.tables) ∙ ap (λ n. fits (database_at db w).tables (record { moment = n; changes = changes_at db e })) b.moment ∙ ap (λ ds. fits (database_at db w).tables (record { moment = w.moment; changes = ds })) b.changes ∙ fit);
+          proper = made_proper apart unused;
+          first = let f = m.first in omega (arith, f, next);
+          given = subst (λ n. All (λ id. id < n) (ids_put_in (changes_so_far db new))) (sym next)
+              (subst (All (λ id. id < (database_at db w).next + taken)) (sym ids_so_far)
+              (All-append (λ id. id < (database_at db w).next + taken) (ids_put_in (changes_so_far db w)) ids
+              (All-weaker (λ id. id < (database_at db w).next) (λ id. id < (database_at db w).next + taken) (λ id lt. omega (arith, lt)) (ids_put_in (changes_so_far db w)) m.given) below));
+          held = held;
+        }
+
+  -- a session of the database commits and takes ids
+  module _ (w new : World) (i taken : ℕ) (s behind : Session) (cs : List Change) (ids : List ℕ) (m : IsMade opening db w) (k : AreStanding (database_at db w).tables db (database_at db w).next w.moment w.sessions) (there : slice_get w.sessions i ≡ Some s)
+      (at : is_same_db s.at db ≡ true) (g : Gives (database_at db w).tables (database_at db w).next taken s behind cs ids) (b : AddsEntry db w new cs taken) where
+    own_unused : (id : ℕ) → IsOwn s (database_at db w).next taken id → IsUnused opening (changes_so_far db w) id
+    own_unused id (inl h) = m.held i s there at id h
+    own_unused id (inr p) = record {
+      later = let e = p.0 in let f = m.first in omega (arith, e, f);
+      new = All-weaker (λ a. a < (database_at db w).next) (λ a. (a == id) ≡ false) (λ a lt. ne_eqb a id (λ e. absurd (let q = p.0 in omega (arith, lt, e, q)))) (ids_put_in (changes_so_far db w)) m.given;
+    }
 
     own_below : (id : ℕ) → IsOwn s (database_at db w).next taken id → id < (database_at db w).next + taken
     own_below id (inl h) = let lt = added_below (database_at db w).next id s.pending (k.each i s there at).given h in omega (arith, lt)
@@ -121,44 +141,15 @@ module _ (opening : Tables) (db : DbId) where
     unused_by j y f id h (inl p) =
         let e : behind ≡ y = (let a : Some behind ≡ Some y = p.1 in cc) in
         let here : list_any (is_addition_of id) behind.pending ≡ true = ap (λ x. list_any (is_addition_of id) x.pending) e ∙ h in
-        let own = g.left id here in
-        record { later = own_later id own; new = subst (All (λ a. (a == id) ≡ false)) (sym ids_so_far) (All-append (λ a. (a == id) ≡ false) (ids_put_in (changes_so_far db w)) ids (own_new id own) (g.gone id here)) }
+        unused_more w new taken cs ids m b g.commit id (own_unused id (g.left id here)) (g.gone id here)
     unused_by j y f id h (inr p) =
-        let old = m.held j y p.1 f id h in
-        record {
-          later = old.later;
-          new = subst (All (λ a. (a == id) ≡ false)) (sym ids_so_far)
-              (All-append (λ a. (a == id) ≡ false) (ids_put_in (changes_so_far db w)) ids old.new (All-weaker (IsOwn s (database_at db w).next taken) (λ a. (a == id) ≡ false) (own_other j y p.1 f p.0 id h) ids g.from));
-        }
-
-    made_proper : AreProper opening (changes_so_far db new)
-    made_proper =
-        let after = after_commits_latest opening (commits_of db w.entries) in
-        let now : (database_at db w).tables ≡ at_latest after.0 (after_all opening (changes_so_far db w)) = m.tables ∙ after.1 in
-        let new_to : All (λ b. All (λ a. (a == b) ≡ false) (ids_put_in (changes_so_far db w))) ids = All-weaker (IsOwn s (database_at db w).next taken) (λ b. All (λ a. (a == b) ≡ false) (ids_put_in (changes_so_far db w))) own_new ids g.from in
-        subst (AreProper opening) (sym so_far)
-        (proper_grows opening (changes_so_far db w) cs ids after.0 m.proper (subst (λ t. IsProperCommit t cs ids) now g.commit) g.apart (All-weaker (IsOwn s (database_at db w).next taken) (λ id. opening.next ≤ id) own_later ids g.from)
-        (λ j d lt n c le. new_to n c le j d lt))
+        unused_more w new taken cs ids m b g.commit id (m.held j y p.1 f id h) (All-weaker (IsOwn s (database_at db w).next taken) (λ a. (a == id) ≡ false) (own_other j y p.1 f p.0 id h) ids g.from)
 
     own_made : fits (database_at db w).tables (record { moment = w.moment; changes = cs }) ≡ true → new.sessions ≡ slice_set w.sessions i behind → IsMade opening db new
     own_made fit set =
-        let next = b.next in
-        let e = b.entry in
-        record {
-          tables = b.tables ∙ ap (λ t. committed_tables t cs w.moment) m.tables ∙ ap (λ ds. committed_tables (after_commits opening (commits_of db w.entries)) ds w.moment) (sym b.changes)
-              ∙ ap (committed_tables (after_commits opening (commits_of db w.entries)) (changes_at db e)) (sym b.moment) ∙ sym (tables-more db w.entries e opening) ∙ ap (λ es. after_commits opening (commits_of db es)) (sym b.entries);
-          count = let x = b.count in let y = m.count in let z = count-more db w.entries e in let a = ap (λ es. length (commits_of db es)) b.entries in let c = ap commits_in b.changes in omega (arith, x, y, z, a, c);
-          fit = ap (λ es. all_fit opening (commits_of db es)) b.entries
-              ∙ fit-more db w.entries e opening m.fit (ap (λ t. fits t (record { moment = e.moment; changes = changes_at db e })) (sym m.tables) ∙ ap (λ n. fits (database_at db w).tables (record { moment = n; changes = changes_at db e })) b.moment ∙ ap (λ ds. fits (database_at db w).tables (record { moment = w.moment; changes = ds })) b.changes ∙ fit);
-          proper = made_proper;
-          first = let f = m.first in omega (arith, f, next);
-          given = subst (λ n. All (λ id. id < n) (ids_put_in (changes_so_far db new))) (sym next)
-              (subst (All (λ id. id < (database_at db w).next + taken)) (sym ids_so_far)
-              (All-append (λ id. id < (database_at db w).next + taken) (ids_put_in (changes_so_far db w)) ids
-              (All-weaker (λ id. id < (database_at db w).next) (λ id. id < (database_at db w).next + taken) (λ id lt. omega (arith, lt)) (ids_put_in (changes_so_far db w)) m.given)
-              (All-weaker (IsOwn s (database_at db w).next taken) (λ id. id < (database_at db w).next + taken) own_below ids g.from)));
-          held = λ j y at_j f id h. unused_by j y f id h (get_set-cases w.sessions i j behind y (slice_get_within w.sessions i s there) (ap (λ xs. slice_get xs j) (sym set) ∙ at_j));
-        }
+        commit_made w new taken cs ids m b g.commit g.apart (All-weaker (IsOwn s (database_at db w).next taken) (IsUnused opening (changes_so_far db w)) own_unused ids g.from)
+        (All-weaker (IsOwn s (database_at db w).next taken) (λ id. id < (database_at db w).next + taken) own_below ids g.from) fit
+        (λ j y at_j f id h. unused_by j y f id h (get_set-cases w.sessions i j behind y (slice_get_within w.sessions i s there) (ap (λ xs. slice_get xs j) (sym set) ∙ at_j)))
 
 -- ---- calls
 
@@ -179,7 +170,7 @@ module _ (w : World) (i : ℕ) (s : Session) (reply : Reply) (cs : List Change) 
   abbrev pub called_at : DbId → World
   called_at at = called_in (world_at at) i s after
 
-  call_behind : (at db : DbId) → Behind db w (called_at at) (for_db at db cs) (ids_for at db (ids_taken reply))
+  call_behind : (at db : DbId) → AddsEntry db w (called_at at) (for_db at db cs) (ids_for at db (ids_taken reply))
   unfolding stepped
   call_behind Home Home = record { entry = entry_of i w cs [] (Call (s.next + 1) reply); entries = refl; changes = refl; moment = refl; tables = refl; count = refl; next = refl }
   call_behind Home Away = record { entry = entry_of i w cs [] (Call (s.next + 1) reply); entries = refl; changes = refl; moment = refl; tables = refl; count = refl; next = omega arith }
@@ -191,11 +182,11 @@ module _ (w : World) (i : ℕ) (s : Session) (reply : Reply) (cs : List Change) 
   call_sessions Home = refl
   call_sessions Away = refl
 
-  pub own_behind : (at : DbId) → Behind at w (called_at at) cs (ids_taken reply)
+  pub own_behind : (at : DbId) → AddsEntry at w (called_at at) cs (ids_taken reply)
   own_behind Home = call_behind Home Home
   own_behind Away = call_behind Away Away
 
-  pub other_behind : (at db : DbId) → is_same_db at db ≡ false → Behind db w (called_at at) [] 0
+  pub other_behind : (at db : DbId) → is_same_db at db ≡ false → AddsEntry db w (called_at at) [] 0
   other_behind Home Home e = absurd (true≢false e)
   other_behind Home Away e = call_behind Home Away
   other_behind Away Home e = call_behind Away Home
@@ -208,12 +199,12 @@ own_db Away = refl
 -- ---- steps that commit nothing
 
 module _ (actor : ℕ) (w : World) (step : Step) where
-  pub still_behind : (i : ℕ) (behind : Session) (db : DbId) → Behind db w (with_session i behind (stepped actor w [] [] step)) [] 0
+  pub still_behind : (i : ℕ) (behind : Session) (db : DbId) → AddsEntry db w (with_session i behind (stepped actor w [] [] step)) [] 0
   unfolding stepped
   still_behind i behind Home = record { entry = entry_of actor w [] [] step; entries = refl; changes = refl; moment = refl; tables = refl; count = refl; next = omega arith }
   still_behind i behind Away = record { entry = entry_of actor w [] [] step; entries = refl; changes = refl; moment = refl; tables = refl; count = refl; next = omega arith }
 
-  pub durable_behind : (db : DbId) → Behind db w (all_durable (stepped actor w [] [] step)) [] 0
+  pub durable_behind : (db : DbId) → AddsEntry db w (all_durable (stepped actor w [] [] step)) [] 0
   unfolding stepped
   durable_behind Home = record { entry = entry_of actor w [] [] step; entries = refl; changes = refl; moment = refl; tables = refl; count = refl; next = omega arith }
   durable_behind Away = record { entry = entry_of actor w [] [] step; entries = refl; changes = refl; moment = refl; tables = refl; count = refl; next = omega arith }
@@ -327,6 +318,10 @@ module _ (home away : Tables) (scripts : List SessionScript) where
 pub legal_is_made : (home away : Tables) (scripts : List SessionScript) (readings : List ℕ) (w : World) → MayBegin home away scripts → IsLegal (opened home away scripts) readings w → (db : DbId) → IsMade (opening_at db home away) db w
 legal_is_made home away scripts readings w b legal =
     (made_from (λ db. opening_at db home away) (opened home away scripts) (opens_valid home away scripts b) (opened_made home away scripts) readings w legal).1
+
+pub commit_keeps_made : (opening : Tables) (db : DbId) (w new : World) (cs : List Change) (taken : ℕ) (ids : List ℕ) → IsMade opening db w → AddsEntry db w new cs taken → IsProperCommit (database_at db w).tables cs ids → AllPairs (λ a e. (a == e) ≡ false) ids
+    → All (IsUnused opening (changes_so_far db w)) ids → All (λ id. id < (database_at db w).next + taken) ids → fits (database_at db w).tables (record { moment = w.moment; changes = cs }) ≡ true → AreUnused opening (changes_so_far db new) db new.sessions → IsMade opening db new
+commit_keeps_made opening db w new cs taken ids m b c apart unused below fit held = commit_made opening db w new taken cs ids m b c apart unused below fit held
 
 pub call_is_proper : (w new : World) (i : ℕ) (s : Session) (statement : Statement) (reply : Reply) (cs : List Change) (after : Session) → IsValidWorld w → Calls i s statement reply cs after w new → are_proper (database_at s.at w).tables cs ≡ true
 call_is_proper w new i s statement reply cs after v c =

@@ -1,5 +1,5 @@
 -- In a legal history no session marks a slot that goes to the other database.
-use Rattle.std.proofs.Common.{◌≡◌, ◌≢◌, ◌≤◌, ◌<◌, ◌+◌, ◌⊎◌, inl, inr, ℕ, List, [], ◌∷◌, Bool, true, false, refl, sym, ap, ◌∙◌, subst, arith, Option, Some, None, Ok, Err, ◌==◌, ◌||◌}
+use Rattle.std.proofs.Common.{◌≡◌, ◌≢◌, ◌≤◌, ◌+◌, ◌⊎◌, inl, inr, ℕ, List, [], ◌∷◌, Bool, true, false, refl, sym, ap, ◌∙◌, subst, arith, Option, Some, None, Ok, Err, ◌==◌}
 use Rattle.std.specs.Prelude.{slice_get, slice_set, map, All}
 use Rattle.std.specs.List.{list_any}
 use Rattle.std.proofs.lemmas.Bool.{eqb-true, ne_eqb, or_cases, or_from, false_from_ne_true, false≢true, true≢false}
@@ -43,7 +43,7 @@ use Rattle.queue_rows.specs.declared.statement.Visibility.{Visibility}
 use Rattle.queue_rows.specs.declared.statement.Visibility.TheVariants as visibilities
 use Rattle.queue_rows.proofs.Sessions.{get_set-cases}
 use Rattle.valid_laws.specs.Openness.{is_open_at}
-use Rattle.valid_laws.specs.Touching.{puts_in, are_proper}
+use Rattle.valid_laws.specs.Touching.{puts_in}
 use Rattle.valid_laws.specs.PendingLaws.{IsAdditionRight, IsPendingRight}
 use Rattle.valid_laws.proofs.Opened.{open_at}
 use Rattle.valid_laws.proofs.Parts.{valid_id}

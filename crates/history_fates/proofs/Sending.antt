@@ -1,10 +1,10 @@
 -- What is sent of valid tables is a recipient's slot, which goes to the other database.
-use Rattle.std.proofs.Common.{◌≡◌, ℕ, List, [], ◌∷◌, Bool, true, false, not, refl, sym, ap, ◌∙◌, Option, Some, None, ◌==◌, ◌&&◌, length}
+use Rattle.std.proofs.Common.{◌≡◌, ℕ, List, Bool, true, false, not, refl, sym, ap, ◌∙◌, Option, Some, None, ◌==◌, ◌&&◌}
 use Rattle.std.specs.Prelude.{find, option_and_then, is_some, nat_le, if◌then◌else◌}
 use Rattle.std.specs.List.{list_all}
 use Rattle.std.specs.Option.{option_map_or}
 use Rattle.std.specs.Str.{bytes_eq}
-use Rattle.std.proofs.lemmas.Bool.{eqb-true, and_parts, and_from, not-true, false≢true, true≢false}
+use Rattle.std.proofs.lemmas.Bool.{eqb-true, and_parts, not-true, false≢true}
 use Rattle.std.proofs.lemmas.Option.{none-some}
 use Rattle.aq_base.specs.declared.limits.TheConstants.{MOMENT_LIMIT}
 use Rattle.queue_rows.specs.Rows.{find_table, find_queue, find_message, slot_of, table_of, recipient_slots}

@@ -1,12 +1,12 @@
 -- Proper changes leave a slot at its database.
-use Rattle.std.proofs.Common.{◌≡◌, ◌≢◌, ◌⊎◌, inl, inr, ℕ, List, [], ◌∷◌, Bool, true, false, not, refl, sym, ap, ◌∙◌, subst, Option, Some, None, ◌==◌, ◌&&◌, ◌||◌, length}
+use Rattle.std.proofs.Common.{◌≡◌, ◌≢◌, ◌⊎◌, inl, inr, ℕ, List, [], ◌∷◌, Bool, true, false, not, refl, sym, ap, ◌∙◌, Option, Some, None, ◌==◌, ◌&&◌, length}
 use Rattle.std.specs.Prelude.{option_map, option_and_then, is_some, is_none, if◌then◌else◌}
 use Rattle.std.specs.List.{list_any}
 use Rattle.std.specs.Option.{option_map_or}
 use Rattle.std.specs.Str.{bytes_eq}
 use Rattle.std.proofs.lemmas.Bool.{cond_both, eqb-true, and_parts, or_parts, or_right, not-true, true≢false}
 use Rattle.queue_rows.specs.Rows.{find_message, find_queue, with_slot, slot_of}
-use Rattle.queue_rows.specs.Tables.{after_change, after_all, after, in_state, retried, moved_to, slot_zero}
+use Rattle.queue_rows.specs.Tables.{after_change, after_all, after, in_state, retried, moved_to}
 use Rattle.queue_rows.specs.Settling.{if_it, left_by}
 use Rattle.queue_rows.specs.World.{committed_tables}
 use Rattle.queue_rows.specs.Valid.{is_valid}
@@ -17,7 +17,7 @@ use Rattle.queue_rows.specs.declared.rows.SlotState.TheVariants as states
 use Rattle.queue_rows.specs.declared.change.Change.{Change}
 use Rattle.queue_rows.specs.declared.change.Change.TheVariants as changes
 use Rattle.queue_rows.proofs.Sessions.{same_or_not}
-use Rattle.row_laws.specs.RowLaws.{leaves_to_settling, puts_new}
+use Rattle.row_laws.specs.RowLaws.{puts_new}
 use Rattle.row_laws.proofs.Messages.{IsSingle, id_found, finds_left, finds_put_in, finds_without_queue, stays_single, new_may_be_put}
 use Rattle.row_laws.proofs.Slots.{slot_of-with_same, slot_of-with_other, slot_of-moved_zero, slot_of-moved_other}
 use Rattle.valid_laws.specs.Openness.{is_finished, may_move}

@@ -1,17 +1,17 @@
 -- When a reply is told, what was committed up to its call is durable.
-use Rattle.std.proofs.Common.{◌≡◌, ◌≢◌, ◌≤◌, ◌+◌, ◌⊎◌, inl, inr, ℕ, List, [], ◌∷◌, ◌++◌, Bool, true, false, refl, sym, ap, ◌∙◌, subst, arith, Option, Some, None, ◌==◌, ◌&&◌, ◌||◌, length, length-append, append-nil}
+use Rattle.std.proofs.Common.{◌≡◌, ◌≢◌, ◌≤◌, ◌+◌, ◌⊎◌, inl, inr, ℕ, List, [], ◌∷◌, ◌++◌, Bool, true, false, refl, sym, ap, ◌∙◌, subst, arith, Some, None, ◌==◌, ◌&&◌, ◌||◌, length, length-append}
 use Rattle.std.specs.Prelude.{slice_get, slice_set, map, if◌then◌else◌}
 use Rattle.std.specs.List.{list_any}
-use Rattle.std.proofs.lemmas.Bool.{eqb-true, and_parts, or_right, false≢true, true≢false}
+use Rattle.std.proofs.lemmas.Bool.{eqb-true, and_parts, false≢true, true≢false}
 use Rattle.std.proofs.lemmas.Option.{none-some, slice_get_within}
 use Rattle.std.proofs.lemmas.List.{map-append, append_assoc}
 use Rattle.std.proofs.lemmas.List.Elements.{filter_map-append}
 use Rattle.aq_base.specs.declared.DbId.{DbId}
 use Rattle.aq_base.specs.declared.DbId.TheVariants.{Home, Away}
-use Rattle.queue_rows.specs.Session.{Session, Untold, fresh_at}
+use Rattle.queue_rows.specs.Session.{Session, Untold}
 use Rattle.queue_rows.specs.Turns.{ids_taken, taking_ids, untold_in, having_called, called_in, called, all_durable}
-use Rattle.queue_rows.specs.World.{World, database_at, opened, fresh, read_clock, at_home, at_away, commits_in, entry_of, stepped, with_session, uncounted}
-use Rattle.queue_rows.specs.Legal.{Tells, MayStep, IsLegal, opens, reads, steps, IsLegalHistory}
+use Rattle.queue_rows.specs.World.{World, database_at, opened, read_clock, at_home, at_away, commits_in, entry_of, stepped, with_session, uncounted}
+use Rattle.queue_rows.specs.Legal.{MayStep, IsLegal, opens, reads, steps, IsLegalHistory}
 use Rattle.queue_rows.specs.declared.tables.Tables.{Tables}
 use Rattle.queue_rows.specs.declared.change.Change.{Change}
 use Rattle.queue_rows.specs.declared.history.Entry.{Entry}

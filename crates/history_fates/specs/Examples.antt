@@ -3,7 +3,6 @@ use Rattle.std.specs.Prelude.{◌≡◌, ◌+◌, pos, ℕ, List, [], ◌∷◌,
 use Rattle.aq_base.specs.declared.DbId.TheVariants.{Home, Away}
 use Rattle.payload_records.specs.declared.payload.Payload.TheVariants as payloads
 use Rattle.queue_rows.specs.Rows.{exception_name, find_message}
-use Rattle.queue_rows.specs.Catalog.{exception_row}
 use Rattle.queue_rows.specs.Legal.{IsLegalHistory}
 use Rattle.queue_rows.specs.declared.tables.Tables.{Tables}
 use Rattle.queue_rows.specs.declared.rows.MsgRow.{MsgRow}
@@ -26,7 +25,7 @@ use Rattle.queue_rows.specs.declared.statement.Statement.{Statement}
 use Rattle.queue_rows.specs.declared.statement.Statement.TheVariants as statements
 use Rattle.queue_rows.specs.declared.statement.Visibility.{Visibility}
 use Rattle.queue_rows.specs.declared.statement.Visibility.TheVariants as visibilities
-use Rattle.valid_laws.specs.Examples.{example_table, example_queue, example_message, example_tables, example_left}
+use Rattle.valid_laws.specs.Examples.{example_table, example_message, example_tables, example_left}
 use Rattle.fate_laws.specs.Made.{commits_of, tables_after}
 use Rattle.fate_laws.specs.Fates.{Fate, ready, processed, expired, fate}
 use Rattle.history_fates.specs.LegalFates.{all_fit}

@@ -1,23 +1,25 @@
 -- The laws of what a legal history commits, and of what becomes of each slot in it.
-use Rattle.std.specs.Prelude.{◌≡◌, ◌≤◌, ◌<◌, ◌==◌, ◌&&◌, ℕ, List, [], ◌∷◌, Bool, true, false, length, All, Some, slice_get}
+use Rattle.std.specs.Prelude.{◌≡◌, ◌≤◌, ◌<◌, ◌==◌, ◌&&◌, ◌+◌, ◌++◌, ℕ, List, [], ◌∷◌, Bool, true, false, length, All, AllPairs, Some, slice_get}
 use Rattle.std.specs.List.{list_any}
 use Rattle.aq_base.specs.declared.DbId.{DbId}
 use Rattle.aq_base.specs.declared.DbId.TheVariants.{Home, Away}
 use Rattle.queue_rows.specs.Tables.{after}
 use Rattle.queue_rows.specs.Session.{Session, is_same_db}
 use Rattle.queue_rows.specs.Fits.{fits}
-use Rattle.queue_rows.specs.World.{World, database_at, opened}
+use Rattle.queue_rows.specs.World.{World, database_at, opened, committed_tables, commits_in}
 use Rattle.queue_rows.specs.Legal.{Calls, IsLegal, IsLegalBy, IsLegalHistory}
 use Rattle.queue_rows.specs.declared.tables.Tables.{Tables}
 use Rattle.queue_rows.specs.declared.change.Change.{Change}
 use Rattle.queue_rows.specs.declared.change.Commit.{Commit}
+use Rattle.queue_rows.specs.declared.history.Entry.{Entry}
 use Rattle.queue_rows.specs.declared.history.History.{History}
 use Rattle.queue_rows.specs.declared.history.SessionScript.{SessionScript}
 use Rattle.queue_rows.specs.declared.reply.Reply.{Reply}
 use Rattle.queue_rows.specs.declared.statement.Statement.{Statement}
 use Rattle.valid_laws.specs.Touching.{are_proper}
 use Rattle.statement_laws.specs.Sessions.{is_addition_of}
-use Rattle.fate_laws.specs.Made.{commits_of, changes_of, after_commits, opening_of, tables_after}
+use Rattle.fate_laws.specs.CommitLaws.{IsProperCommit}
+use Rattle.fate_laws.specs.Made.{changes_at, commits_of, changes_of, after_commits, opening_of, tables_after}
 use Rattle.fate_laws.specs.Proper.{ids_put_in, AreProper}
 use Rattle.fate_laws.specs.Lasting.{HasFates}
 use Rattle.world_laws.specs.ValidWorld.{IsValidWorld}
@@ -43,6 +45,11 @@ pub record IsUnused (opening : Tables) (cs : List Change) (id : ℕ) : Type 0 wh
   pub later : opening.next ≤ id
   pub new : All (λ a. (a == id) ≡ false) (ids_put_in cs)
 
+-- what sessions of the database have added and not committed has ids that were not used
+abbrev pub AreUnused : Tables → List Change → DbId → List Session → Type 0
+AreUnused opening cs db sessions = (i : ℕ) (s : Session) → slice_get sessions i ≡ Some s → is_same_db s.at db ≡ true → (id : ℕ)
+    → list_any (is_addition_of id) s.pending ≡ true → IsUnused opening cs id
+
 -- The database is what its commits made of the opening, in order; they are as many as were counted, and each fits. All that was changed
 -- is proper. Messages were put in with ids that the database gave, and what sessions have added and not committed has ids that were not used.
 pub record IsMade (opening : Tables) (db : DbId) (w : World) : Type 0 where
@@ -52,8 +59,17 @@ pub record IsMade (opening : Tables) (db : DbId) (w : World) : Type 0 where
   pub proper : AreProper opening (changes_so_far db w)
   pub first : opening.next ≤ (database_at db w).next
   pub given : All (λ id. id < (database_at db w).next) (ids_put_in (changes_so_far db w))
-  pub held : (i : ℕ) (s : Session) → slice_get w.sessions i ≡ Some s → is_same_db s.at db ≡ true → (id : ℕ)
-      → list_any (is_addition_of id) s.pending ≡ true → IsUnused opening (changes_so_far db w) id
+  pub held : AreUnused opening (changes_so_far db w) db w.sessions
+
+-- The world has one entry more, which commits these changes at the database, and takes so many ids there.
+pub record AddsEntry (db : DbId) (w new : World) (cs : List Change) (taken : ℕ) : Type 0 where
+  pub entry : Entry
+  pub entries : new.entries ≡ w.entries ++ entry ∷ []
+  pub changes : changes_at db entry ≡ cs
+  pub moment : entry.moment ≡ w.moment
+  pub tables : (database_at db new).tables ≡ committed_tables (database_at db w).tables cs w.moment
+  pub count : (database_at db new).made ≡ (database_at db w).made + commits_in cs
+  pub next : (database_at db new).next ≡ (database_at db w).next + taken
 
 -- ---- the laws
 
@@ -61,6 +77,13 @@ pub record IsMade (opening : Tables) (db : DbId) (w : World) : Type 0 where
 abbrev pub CallIsProper : Type 0
 CallIsProper = (w new : World) (i : ℕ) (s : Session) (statement : Statement) (reply : Reply) (cs : List Change) (after : Session) → IsValidWorld w
     → Calls i s statement reply cs after w new → are_proper (database_at s.at w).tables cs ≡ true
+
+-- whoever commits: a proper commit that fits, with ids that are new and no session holds, leaves a database made so
+abbrev pub CommitKeepsMade : Type 0
+CommitKeepsMade = (opening : Tables) (db : DbId) (w new : World) (cs : List Change) (taken : ℕ) (ids : List ℕ) → IsMade opening db w → AddsEntry db w new cs taken
+    → IsProperCommit (database_at db w).tables cs ids → AllPairs (λ a b. (a == b) ≡ false) ids → All (IsUnused opening (changes_so_far db w)) ids
+    → All (λ id. id < (database_at db w).next + taken) ids → fits (database_at db w).tables (record { moment = w.moment; changes = cs }) ≡ true
+    → AreUnused opening (changes_so_far db new) db new.sessions → IsMade opening db new
 
 -- each database of a legal world is what its commits made of it
 abbrev pub LegalIsMade : Type 0

@@ -12,6 +12,7 @@ ghost use Rattle.history_fates.specs.Durability.{LegalIsDurableAsTold};
 ghost use Rattle.history_fates.specs.Examples.{ExampleIsGivenUp, ExampleIsPut, ExampleIsSent, ExampleIsTaken};
 ghost use Rattle.history_fates.specs.LegalFates.{
   CallIsProper,
+  CommitKeepsMade,
   LegalCommitsFit,
   LegalEndsIn,
   LegalHasFates,
@@ -28,6 +29,11 @@ ghost use Rattle.history_fates.specs.LocalMarks.{
 /// What a call commits in a valid world is proper.
 pub fn call_is_proper()
     ensures { CallIsProper }
+{}
+
+/// A proper commit that fits, whoever makes it, with ids that are new, leaves a database what its commits made of it.
+pub fn commit_keeps_made()
+    ensures { CommitKeepsMade }
 {}
 
 /// Each database of a legal world is what its commits made of it, with ids that are given once.
