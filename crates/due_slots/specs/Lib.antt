@@ -1,2 +1,5 @@
+pub mod Edits
+pub mod Indexed
+pub mod Laws
 pub mod Named
 pub mod Rows

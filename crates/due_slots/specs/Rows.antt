@@ -1,8 +1,9 @@
 -- Which rows a message has in the index of what is due.
-use Rattle.std.specs.Prelude.{ℕ, ◌+◌, ◌-◌, ◌^◌, ◌++◌, List, [], ◌∷◌, min, flat_map, Option, Some, None, option_and_then, if◌then◌else◌}
+use Rattle.std.specs.Prelude.{ℕ, ◌+◌, ◌-◌, ◌^◌, ◌<◌, ◌++◌, List, [], ◌∷◌, min, flat_map, Option, Some, None, option_and_then, if◌then◌else◌}
+use Rattle.std.specs.List.{range_with_len}
 use Rattle.due_index.specs.Due.{due_row}
 use Rattle.due_index.specs.declared.row.DueRow.{DueRow}
-use Rattle.queue_rows.specs.Rows.{slot_of}
+use Rattle.queue_rows.specs.Rows.{recipient_count, slot_of}
 use Rattle.queue_rows.specs.Settling.{is_open, is_ready, is_handled}
 use Rattle.queue_rows.specs.Due.{slot_numbers, is_taken, last_taken}
 use Rattle.queue_rows.specs.declared.rows.MsgRow.{MsgRow}
@@ -35,3 +36,11 @@ purge_row retention m = if is_handled m then due_row (purge_moment retention m) 
 -- number, and one under the number 0 where all have taken the message
 abbrev pub rows_of : ℕ → MsgRow → List DueRow
 rows_of retention m = flat_map (slot_row m) (slot_numbers m) ++ purge_row retention m
+
+-- the rows of the slots of its recipients
+abbrev pub recipient_rows : MsgRow → List DueRow
+recipient_rows m = flat_map (slot_row m) (range_with_len 1 (recipient_count m))
+
+-- the number of each slot fits 32 bits
+abbrev pub HasFewSlots : MsgRow → Type 0
+HasFewSlots m = recipient_count m + 1 < 2 ^ 32

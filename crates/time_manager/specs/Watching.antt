@@ -1,9 +1,9 @@
 -- What due work looks at, as a watch of the definitions.
-use Rattle.std.specs.Prelude.{◌≡◌, ◌+◌, ◌<◌, ◌^◌, ℕ, List, [], true, map, Option, Some, None, option_and_then, option_copied, if◌then◌else◌}
+use Rattle.std.specs.Prelude.{◌≡◌, ℕ, List, [], true, map, Option, Some, None, option_and_then, option_copied, if◌then◌else◌}
 use Rattle.aq_base.specs.declared.DbId.{DbId}
 use Rattle.slot_marks.specs.Marks.{SessionMarks}
 use Rattle.slot_marks.specs.declared.mark.Mark.{Mark}
-use Rattle.queue_rows.specs.Rows.{recipient_count, table_of}
+use Rattle.queue_rows.specs.Rows.{table_of}
 use Rattle.queue_rows.specs.Session.{Session, fresh_at}
 use Rattle.queue_rows.specs.Due.{Watch, due}
 use Rattle.queue_rows.specs.Valid.{is_valid}
@@ -38,11 +38,7 @@ watch_of w = record {
 abbrev pub group_number : Tables → MsgRow → Option ℕ
 group_number t m = option_and_then (λ table. if table.grouped then Some m.group else None) (table_of t m.queue)
 
--- ---- what is asked of messages, and what is answered
-
--- the number of each slot fits 32 bits
-abbrev pub HasFewSlots : MsgRow → Type 0
-HasFewSlots m = recipient_count m + 1 < 2 ^ 32
+-- ---- what is answered
 
 -- the changes are what is due for any sessions whose marks the locks keep
 abbrev pub IsDue : Tables → DbId → List SessionMarks → Option SlotRef → ℕ → List Change → Type 0

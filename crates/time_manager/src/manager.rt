@@ -3,7 +3,8 @@ ghost use Rattle.std.specs.Prelude.{◌≡◌, ◌<◌, ◌^◌, true, IfOk, All
 ghost use Rattle.queue_rows.specs.Distinct.{are_distinct};
 ghost use Rattle.queue_rows.specs.Due.{watched};
 ghost use Rattle.queue_rows.specs.Valid.{is_same_message};
-ghost use Rattle.time_manager.specs.Watching.{HasFewSlots, IsCalmAfter, IsDue, watch_of};
+ghost use Rattle.due_slots.specs.Rows.{HasFewSlots};
+ghost use Rattle.time_manager.specs.Watching.{IsCalmAfter, IsDue, watch_of};
 
 use crate::purges::push_all_purges;
 use crate::ranks::due_ranks;
@@ -45,8 +46,10 @@ pub fn due<T: DueTables>(
 ) -> Result<List<Change>, AllocError>
     requires distinct { are_distinct is_same_message (T.tables store.now).messages ≡ true }
     requires slots { All HasFewSlots (T.tables store.now).messages }
-    ensures due { IfOk result (IsDue (T.tables store.now) db locks.now (option_copied transit.entry) moment) }
-    ensures calm { IfOk result (IsCalmAfter (T.tables store.now) db locks.now (option_copied transit.entry) moment) }
+    ensures due { let sent = option_copied transit.entry in
+        IfOk result (IsDue (T.tables store.now) db locks.now sent moment) }
+    ensures calm { let sent = option_copied transit.entry in
+        IfOk result (IsCalmAfter (T.tables store.now) db locks.now sent moment) }
 {
     let watching = Watching {
         tables: store.tables(),

@@ -72,8 +72,8 @@ pub(crate) fn push_all_purges(
     watching: &Watching<'_>,
     ranks: &[usize],
 ) -> Result<(), AllocError>
-    ensures { let w = watch_of watching.now in OnOk result (changes.new
-        ≡ changes.old ++ flat_map (λ rank. given (due_purge w) (slice_get w.tables.messages rank)) ranks.now) }
+    ensures { let w = watch_of watching.now in OnOk result (changes.new ≡ changes.old
+        ++ flat_map (λ rank. given (due_purge w) (slice_get w.tables.messages rank)) ranks.now) }
 {
     for rank in ranks {
         push_purge_at(changes, watching, *rank)?;

@@ -45,7 +45,8 @@ pub(crate) fn due_ranks<T: DueTables>(
     moment: u64,
     alloc: Global,
 ) -> Result<Vec<usize>, AllocError>
-    ensures { IfOk result (λ ranks. AreDueRanks (T.tables store.now).messages rows.now.rows moment ranks.items) }
+    ensures { let messages = (T.tables store.now).messages in
+        IfOk result (λ ranks. AreDueRanks messages rows.now.rows moment ranks.items) }
 {
     let mut ranks = ranks_in_turn(store, rows, moment, alloc)?;
     ranks.sort()?;

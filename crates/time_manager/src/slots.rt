@@ -4,8 +4,9 @@ ghost use Rattle.std.specs.List.{range_with_len};
 ghost use Rattle.queue_rows.specs.Rows.{recipient_count, slot_of};
 ghost use Rattle.queue_rows.specs.Due.{due_change, due_slot, due_slots, is_over};
 ghost use Rattle.due_slots.specs.Named.{is_slot_due};
+ghost use Rattle.due_slots.specs.Rows.{HasFewSlots};
 ghost use Rattle.time_manager.specs.Ranks.{given};
-ghost use Rattle.time_manager.specs.Watching.{HasFewSlots, watch_of};
+ghost use Rattle.time_manager.specs.Watching.{watch_of};
 
 use crate::holding::is_left;
 use crate::watching::Watching;
@@ -124,8 +125,8 @@ pub(crate) fn push_all_slots(
     ranks: &[usize],
 ) -> Result<(), AllocError>
     requires { All HasFewSlots watching.now.tables.now.messages }
-    ensures { let w = watch_of watching.now in OnOk result (changes.new
-        ≡ changes.old ++ flat_map (λ rank. given (due_slots w) (slice_get w.tables.messages rank)) ranks.now) }
+    ensures { let w = watch_of watching.now in OnOk result (changes.new ≡ changes.old
+        ++ flat_map (λ rank. given (due_slots w) (slice_get w.tables.messages rank)) ranks.now) }
 {
     for rank in ranks {
         push_slots_at(changes, watching, *rank)?;

@@ -1,0 +1,5 @@
+pub mod Counting
+pub mod Indexing
+pub mod Naming
+pub mod Stepping
+pub mod Telling
