@@ -230,6 +230,11 @@ fn message(alloc: Global, row: &Message) -> Result<MsgRow, Fail> {
     Ok(message_of(row.0, queue, place, facts, slots))
 }
 
+/// A message of the queue `mq` that only `a` is to have.
+pub fn message_for_a(alloc: Global) -> Result<MsgRow, Fail> {
+    message(alloc, &(9, "mq", &[("a", "", SlotState::Ready)]))
+}
+
 fn add_messages(messages: &mut Tree<MsgRow>, alloc: Global, rows: &[Message]) -> Result<(), Fail> {
     for row in rows {
         messages.append(alloc, message(alloc, row)?)?;

@@ -10,8 +10,9 @@ use std::test::Fail;
 
 // ---- statements
 
+/// A statement, by its names and what else matters to the cases.
 #[derive(Clone, Copy)]
-enum Asked {
+pub enum Asked {
     // whether for many consumers, and in groups
     CreateTable(&'static str, bool, bool),
     DropTable(&'static str),
@@ -135,7 +136,8 @@ fn single(alloc: Global, asked: Asked, queue: &str) -> Result<Admin, Fail> {
     Ok(of_queue(asked, queue))
 }
 
-fn statement(alloc: Global, asked: Asked) -> Result<Admin, Fail> {
+/// The statement itself.
+pub fn statement(alloc: Global, asked: Asked) -> Result<Admin, Fail> {
     match asked {
         Asked::CreateTable(table, multi, grouped) => create_table(alloc, table, multi, grouped),
         Asked::DropTable(table) => drop_table(alloc, table),

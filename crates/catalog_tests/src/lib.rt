@@ -1,8 +1,10 @@
-//! Tests of what administrative statements change, and of why they are refused.
+//! Tests of what administrative statements change, why they are refused, and what stands against them.
 #![tactic(auto)]
 
 #[cfg(test)]
 mod fixtures;
+#[cfg(test)]
+mod hindering;
 #[cfg(test)]
 mod judging;
 #[cfg(test)]
