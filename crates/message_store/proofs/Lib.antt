@@ -1,5 +1,4 @@
 pub mod SuffixLemmas
-pub mod PreparingLemmas
 pub mod FindLemmas
 pub mod PlaceLemmas
 pub mod MessageLemmas
@@ -7,3 +6,4 @@ pub mod SlotLemmas
 pub mod ReadyLemmas
 pub mod StampLemmas
 pub mod OthersLemmas
+pub mod StoredLemmas

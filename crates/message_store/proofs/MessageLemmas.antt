@@ -1,20 +1,19 @@
 -- The numbers of messages, and what is found by them.
-use Rattle.std.proofs.Common.{◌≡◌, ℕ, suc, ◌+◌, ◌<◌, ◌≤◌, ◌==◌, List, [], ◌∷◌, ◌++◌, length, length-append, take, drop, Bool, cond, not, filter, Option, Some, None, sym, ap, ◌∙◌, refl, subst, arith}
+use Rattle.std.proofs.Common.{◌≡◌, ℕ, suc, ◌+◌, ◌<◌, ◌==◌, List, [], ◌∷◌, ◌++◌, length, take, drop, Bool, cond, not, Option, Some, None, sym, ap, ◌∙◌, refl, subst}
 use Rattle.std.specs.Prelude.{count_by, find, position, remove, slice_get, slice_set, IfSome}
 use Rattle.std.specs.Option.{option_map_or}
 use Rattle.std.specs.List.{prefix_len}
 use Rattle.std.proofs.Math.Seq.{map-set_same}
 use Rattle.std.proofs.lemmas.Bool.{lt-ltb}
-use Rattle.std.proofs.lemmas.List.{length-map, length-take, length-drop, length-set, map-append, take-map, drop-map}
+use Rattle.std.proofs.lemmas.List.{length-map, map-append, take-map, drop-map}
 use Rattle.std.proofs.lemmas.List.Folds.{fold-map}
-use Rattle.std.proofs.lemmas.List.Sums.{length-filter, count_by-le-length}
 use Rattle.std.proofs.lemmas.Option.{get_or_from_slice_get}
 use Rattle.queue_rows.specs.Rows.{set_some, changed_some, changed_nth, changed_at, changed_first}
 use Rattle.queue_rows.specs.Tables.{moved_to}
 use Rattle.queue_rows.specs.declared.rows.MsgRow.{MsgRow}
 use Rattle.row_tree.specs.Edits.{edit_at}
 use Rattle.message_store.specs.Indexed.{Indexed}
-use Rattle.message_store.specs.Messages.{ids_of, with_changed, KeepsId, IsIndexed}
+use Rattle.message_store.specs.Messages.{ids_of, with_changed, KeepsId}
 use Rattle.message_store.specs.Moves.{moved_within}
 use Rattle.message_store.specs.Rows.{Rows}
 use Rattle.message_store.proofs.FindLemmas.{find-at_position}
@@ -47,12 +46,6 @@ ids_removed ms i =
     let id_of : MsgRow → ℕ = λ m. m.id in
     ap (λ front. front ++ drop (suc i) (ids_of ms)) (take-map id_of i ms) ∙ ap (λ back. ids_of (take i ms) ++ back) (drop-map id_of (suc i) ms) ∙ sym (map-append id_of (take i ms) (drop (suc i) ms))
 
--- the memory that an index has for the numbers of all messages is enough for those that are kept
-pub room_for_kept : (rows : Rows MsgRow) (index : Indexed) (keep : MsgRow → Bool) (room : ℕ) → IsIndexed rows index → room ≡ index.room + length index.ids
-    → rows.room + length (filter keep rows.items) ≤ room
-room_for_kept rows index keep room h enough =
-    omega (arith, h.room, ap length h.ids, length-map rows.items (λ m. m.id), length-filter keep rows.items, count_by-le-length keep rows.items)
-
 -- a change of the row at an index is the one of the definitions
 pub edit_is_changed : {T : Type 0} (rows : List T) (i : ℕ) (change : T → T) → edit_at rows i change ≡ changed_nth change i rows
 edit_is_changed {T} rows i change =
@@ -81,14 +74,6 @@ changed_alike {T} p f g rows same = by (position p rows) refl
     by (Some i) is =
         let Same : Option T → Type 0 = λ o. IfSome o (λ row. f row ≡ g row) in
         one i (slice_get rows i) (subst Same (find-at_position p rows i is) same)
-
-pub length_edited : {T : Type 0} (rows : List T) (i : ℕ) (change : T → T) → length (edit_at rows i change) ≡ length rows
-length_edited {T} rows i change =
-    let P : Option T → Type 0 = λ o. length (option_map_or (λ row. slice_set rows i (change row)) o rows) ≡ length rows in
-    elim (slice_get rows i) as P [ None ↦ refl | Some row ↦ length-set rows i (change row) ]
-
-pub length_removed : {T : Type 0} (rows : List T) (i : ℕ) → length (remove rows i) ≤ length rows
-length_removed rows i = omega (arith, length-append (take i rows) (drop (suc i) rows), length-take i rows, length-drop (suc i) rows)
 
 enough : (room : ℕ) (queue : List ℕ) (at : ℕ) (o : Option MsgRow) → IfSome o (λ m. length m.slots < room) → IfSome o (λ m. moved_within room queue at m ≡ moved_to queue at m)
 enough room queue at None h = tt

@@ -62,4 +62,7 @@ room_left r (changes.Enqueued row) cs h =
 room_left r (changes.Seen row) cs h =
     let k = kept r (changes.Seen row) cs h in
     record { tables = k.tables; queues = k.queues; subs = k.subs; schedules = k.schedules; messages = k.messages; seen = takes is_seen_put (changes.Seen row) cs r.seen refl h.seen }
+room_left r (changes.Moved id queue at) cs h =
+    let k = kept r (changes.Moved id queue at) cs h in
+    record { tables = k.tables; queues = k.queues; subs = k.subs; schedules = k.schedules; messages = k.messages; seen = k.seen }
 room_left r c cs h = kept r c cs h

@@ -1,8 +1,8 @@
--- Prepared changes can be made one after another without memory.
-use Rattle.std.proofs.Common.{◌≡◌, ℕ, ◌<◌, ◌≤◌, All, List, [], ◌∷◌, length, Option, Some, None, refl, ap, arith}
+-- Changes for which memory was taken can be made one after another.
+use Rattle.std.proofs.Common.{◌≡◌, ℕ, ◌<◌, ◌≤◌, All, List, [], ◌∷◌, ◌++◌, append_assoc, drop, length, Option, Some, None, refl, sym, ap, ◌∙◌, subst, arith}
 use Rattle.std.specs.Prelude.{IfSome}
 use Rattle.std.proofs.lemmas.Bool.{eq-eqb}
-use Rattle.std.proofs.lemmas.List.Elements.{All-head, All-tail, All-weaker}
+use Rattle.std.proofs.lemmas.List.Elements.{All-head, All-tail}
 use Rattle.std.proofs.lemmas.List.Sums.{sum_by-cons}
 use Rattle.queue_rows.specs.Rows.{find_message}
 use Rattle.queue_rows.specs.Tables.{after_change}
@@ -11,9 +11,8 @@ use Rattle.queue_rows.specs.declared.rows.MsgRow.{MsgRow}
 use Rattle.queue_rows.specs.declared.change.Change.{Change}
 use Rattle.queue_rows.specs.declared.change.Change.TheVariants as changes
 use Rattle.message_store.specs.Numbers.{HasNumbers}
-use Rattle.message_store.specs.Room.{Room, HasRoom, room_after}
-use Rattle.message_store.specs.Prepared.{slots_added, most_slots, HasSlotRoom, HasItsSlotRoom, AreReady, changes_of}
-use Rattle.message_store.specs.declared.prepared.Prepared.{Prepared}
+use Rattle.message_store.specs.Room.{Room, HasRoom, next_slots, room_after}
+use Rattle.message_store.specs.Prepared.{slots_added, most_slots, AddsRoom, HasSlotRooms, HasItsSlotRoom, AreReady}
 use Rattle.message_store.proofs.PlaceLemmas.{place, room_left}
 use Rattle.message_store.proofs.SlotLemmas.{one_if, slots_after, found_slots}
 
@@ -24,29 +23,43 @@ fits t id at queue cs n None e h = tt
 fits t id at queue cs n (Some m) e h =
     omega (arith, found_slots id t.messages m e, sum_by-cons (slots_added id) (changes.Moved id queue at) cs, ap one_if (eq-eqb id id refl), h)
 
-its_room : (t : Tables) (c : Change) (cs : List Change) (slots : ℕ) → HasSlotRoom t.messages (c ∷ cs) c slots → HasItsSlotRoom t c slots
-its_room t (changes.Moved id queue at) cs slots h = fits t id at queue cs slots (find_message t id) refl h
+its_room : (t : Tables) (c : Change) (cs : List Change) (slots : List ℕ) → HasSlotRooms t.messages (c ∷ cs) (c ∷ cs) slots → HasItsSlotRoom t slots c
+its_room t (changes.Moved id queue at) cs slots h = fits t id at queue cs (next_slots slots) (find_message t id) refl h.0
 its_room t _ cs slots h = tt
 
-later_room : (t : Tables) (c : Change) (cs : List Change) (d : Change) (slots : ℕ) → HasSlotRoom t.messages (c ∷ cs) d slots
-    → HasSlotRoom (after_change t c).messages cs d slots
-later_room t c cs (changes.Moved id queue at) slots h = omega (arith, slots_after id t c, sum_by-cons (slots_added id) c cs, h)
-later_room t c cs _ slots h = tt
+-- those that are moved after a change have memory then
+later_rooms : (t : Tables) (c : Change) (cs ds : List Change) (slots : List ℕ) → HasSlotRooms t.messages (c ∷ cs) ds slots
+    → HasSlotRooms (after_change t c).messages cs ds slots
+later_rooms t c cs [] slots h = tt
+later_rooms t c cs (changes.Moved id queue at ∷ ds) slots h =
+    (omega (arith, slots_after id t c, sum_by-cons (slots_added id) c cs, h.0), later_rooms t c cs ds (drop 1 slots) h.1)
+later_rooms t c cs (_ ∷ ds) slots h = later_rooms t c cs ds slots h
 
-pub are_ready : (t : Tables) (r : Room) (ps : List Prepared) → All HasNumbers (changes_of ps) → HasRoom r (changes_of ps)
-    → All (λ p. HasSlotRoom t.messages (changes_of ps) p.change p.slots) ps → AreReady t r ps
+-- the memory that is left when a change is made is that for those behind it
+rooms_left : (ms : List MsgRow) (all : List Change) (r : Room) (c : Change) (ds : List Change) → HasSlotRooms ms all (c ∷ ds) r.slots → HasSlotRooms ms all ds (room_after r c).slots
+rooms_left ms all r (changes.Moved id queue at) ds h = h.1
+rooms_left ms all r _ ds h = h
+
+pub are_ready : (t : Tables) (r : Room) (cs : List Change) → All HasNumbers cs → HasRoom r cs → HasSlotRooms t.messages cs cs r.slots → AreReady t r cs
 are_ready t r [] numbers room slots = tt
-are_ready t r (p ∷ ps) numbers room slots =
-    let cs = changes_of ps in
-    let RoomNow : Prepared → Type 0 = λ q. HasSlotRoom t.messages (p.change ∷ cs) q.change q.slots in
-    let RoomLater : Prepared → Type 0 = λ q. HasSlotRoom (after_change t p.change).messages cs q.change q.slots in (
-      record {
-        numbers = All-head HasNumbers p.change cs numbers;
-        place = place r p.change cs room;
-        slots = its_room t p.change cs p.slots (All-head RoomNow p ps slots);
-      },
-      are_ready (after_change t p.change) (room_after r p.change) ps
-          (All-tail HasNumbers p.change cs numbers)
-          (room_left r p.change cs room)
-          (All-weaker RoomNow RoomLater (λ q. later_room t p.change cs q.change q.slots) ps (All-tail RoomNow p ps slots)),
-    )
+are_ready t r (c ∷ cs) numbers room slots = (
+  record {
+    numbers = All-head HasNumbers c cs numbers;
+    place = place r c cs room;
+    slots = its_room t c cs r.slots slots;
+  },
+  are_ready (after_change t c) (room_after r c) cs
+      (All-tail HasNumbers c cs numbers)
+      (room_left r c cs room)
+      (later_rooms t c cs cs (room_after r c).slots (rooms_left t.messages (c ∷ cs) r c cs slots)),
+)
+
+-- memory for one more comes last
+pub one_more : (ms : List MsgRow) (all : List Change) (c : Change) (rest : List Change) (old new : List ℕ) → AddsRoom ms all c old new
+    → ((later : List ℕ) → HasSlotRooms ms all (c ∷ rest) later → HasSlotRooms ms all all (old ++ later))
+    → (later : List ℕ) → HasSlotRooms ms all rest later → HasSlotRooms ms all all (new ++ later)
+one_more ms all (changes.Moved id queue at) rest old new adds more later h =
+    let whole : new ++ later ≡ old ++ adds.slots ∷ later = ap (λ x. x ++ later) adds.last ∙ append_assoc old (adds.slots ∷ []) later in
+    subst (HasSlotRooms ms all all) (sym whole) (more (adds.slots ∷ later) (adds.enough, h))
+one_more ms all _ rest old new adds more later h =
+    subst (HasSlotRooms ms all all) (ap (λ x. x ++ later) (sym adds)) (more later h)

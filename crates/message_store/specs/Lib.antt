@@ -9,4 +9,6 @@ pub mod Room
 pub mod Puts
 pub mod Moves
 pub mod Open
+pub mod Beside
+pub mod Stored
 pub mod Prepared

@@ -1,13 +1,17 @@
 -- Messages, and the index that finds them by their numbers.
-use Rattle.std.specs.Prelude.{◌≡◌, ◌==◌, ℕ, ◌≤◌, List, map}
+use Rattle.std.specs.Prelude.{◌≡◌, ◌==◌, ℕ, List, Bool, Option, map, option_map, slice_get}
+use Rattle.std.specs.Str.{bytes_eq}
 use Rattle.queue_rows.specs.Rows.{changed_first}
 use Rattle.queue_rows.specs.declared.rows.MsgRow.{MsgRow}
-use Rattle.message_store.specs.Indexed.{Indexed}
 use Rattle.message_store.specs.Rows.{Rows}
 
 -- the numbers of messages, in order
 abbrev pub ids_of : List MsgRow → List ℕ
 ids_of messages = map (λ m. m.id) messages
+
+-- whether the message at an index stands in that queue
+abbrev pub stands_in : List ℕ → List MsgRow → ℕ → Option Bool
+stands_in queue messages at = option_map (λ m. bytes_eq m.queue queue) (slice_get messages at)
 
 -- the first message of that number is changed
 abbrev pub with_changed : ℕ → (MsgRow → MsgRow) → Rows MsgRow → Rows MsgRow
@@ -16,8 +20,3 @@ with_changed id change rows = record rows { items = changed_first (λ m. m.id ==
 -- a change of a message leaves its number
 abbrev pub KeepsId : (MsgRow → MsgRow) → Type 0
 KeepsId change = (m : MsgRow) → (change m).id ≡ m.id
-
--- the index tells the numbers of these messages, and has memory for as many more
-pub record IsIndexed (rows : Rows MsgRow) (index : Indexed) : Type 0 where
-  pub ids : index.ids ≡ ids_of rows.items
-  pub room : rows.room ≤ index.room

@@ -17,7 +17,7 @@ held o = record {
   latest = o.latest;
 }
 
--- for how many more rows of each kind there is memory
+-- for how much more there is memory
 abbrev pub room_of : OpenTables → Room
 room_of o = record {
   tables = o.tables.room;
@@ -26,4 +26,5 @@ room_of o = record {
   schedules = o.schedules.room;
   messages = o.messages.room;
   seen = o.seen.room;
+  slots = o.slots.items;
 }

@@ -1,5 +1,5 @@
 -- Changes for which all memory was taken.
-use Rattle.std.specs.Prelude.{◌≡◌, ℕ, ◌+◌, ◌<◌, ◌≤◌, ◌==◌, Bool, true, false, Option, List, [], ◌∷◌, length, map, sum_by, unwrap_or, IfSome, if◌then◌else◌}
+use Rattle.std.specs.Prelude.{◌≡◌, ℕ, ◌+◌, ◌<◌, ◌≤◌, ◌==◌, Bool, true, false, Option, List, [], ◌∷◌, ◌++◌, drop, length, sum_by, unwrap_or, IfSome, if◌then◌else◌}
 use Rattle.queue_rows.specs.Rows.{find_message}
 use Rattle.queue_rows.specs.Tables.{after_change}
 use Rattle.queue_rows.specs.declared.tables.Tables.{Tables}
@@ -7,8 +7,7 @@ use Rattle.queue_rows.specs.declared.rows.MsgRow.{MsgRow}
 use Rattle.queue_rows.specs.declared.change.Change.{Change}
 use Rattle.queue_rows.specs.declared.change.Change.TheVariants as changes
 use Rattle.message_store.specs.Numbers.{HasNumbers}
-use Rattle.message_store.specs.Room.{Room, HasPlace, room_after}
-use Rattle.message_store.specs.declared.prepared.Prepared.{Prepared}
+use Rattle.message_store.specs.Room.{Room, HasPlace, next_slots, room_after}
 
 -- how many slots the messages of a number have
 abbrev pub slots_of : ℕ → List MsgRow → ℕ
@@ -41,27 +40,40 @@ TellsSums told cs = (id : ℕ) → unwrap_or (told id) 0 ≡ sum_by (slots_added
 abbrev pub most_slots : ℕ → List MsgRow → List Change → ℕ
 most_slots id messages cs = slots_of id messages + sum_by (slots_added id) cs
 
--- there is memory for the slots of a message that is moved, and for slot 0 behind them
-abbrev pub HasSlotRoom : List MsgRow → List Change → Change → ℕ → Type 0
-HasSlotRoom messages cs (changes.Moved id queue at) slots = most_slots id messages cs ≤ slots
-HasSlotRoom messages cs _ slots = Unit {0}
+-- there is memory for the slots of each message that some of the changes move, and for slot 0 behind them
+abbrev pub HasSlotRooms : List MsgRow → List Change → List Change → List ℕ → Type 0
+HasSlotRooms messages all [] slots = Unit {0}
+HasSlotRooms messages all (changes.Moved id queue at ∷ cs) slots =
+    (most_slots id messages all ≤ next_slots slots) × HasSlotRooms messages all cs (drop 1 slots)
+HasSlotRooms messages all (_ ∷ cs) slots = HasSlotRooms messages all cs slots
+
+-- memory for slots comes last, for as many as messages of that number can have after all of these changes
+pub record PutsRoom (messages : List MsgRow) (all : List Change) (id : ℕ) (old new : List ℕ) : Type 0 where
+  pub slots : ℕ
+  pub enough : most_slots id messages all ≤ slots
+  pub last : new ≡ old ++ slots ∷ []
+
+-- so it does for the message that a change moves
+abbrev pub AddsRoom : List MsgRow → List Change → Change → List ℕ → List ℕ → Type 0
+AddsRoom messages all (changes.Moved id queue at) old new = PutsRoom messages all id old new
+AddsRoom messages all _ old new = new ≡ old
+
+-- of the message of that number, if there is one, there are fewer slots
+abbrev pub HasFewerSlots : Tables → ℕ → ℕ → Type 0
+HasFewerSlots t id slots = IfSome (find_message t id) (λ m. length m.slots < slots)
 
 -- there is memory for the slots of the message that this change moves
-abbrev pub HasItsSlotRoom : Tables → Change → ℕ → Type 0
-HasItsSlotRoom t (changes.Moved id queue at) slots = IfSome (find_message t id) (λ m. length m.slots < slots)
-HasItsSlotRoom t _ slots = Unit {0}
+abbrev pub HasItsSlotRoom : Tables → List ℕ → Change → Type 0
+HasItsSlotRoom t slots (changes.Moved id queue at) = HasFewerSlots t id (next_slots slots)
+HasItsSlotRoom t slots _ = Unit {0}
 
 -- the change can be made in these tables without memory
-pub record IsReady (t : Tables) (r : Room) (p : Prepared) : Type 0 where
-  pub numbers : HasNumbers p.change
-  pub place : HasPlace r p.change
-  pub slots : HasItsSlotRoom t p.change p.slots
+pub record IsReady (t : Tables) (r : Room) (c : Change) : Type 0 where
+  pub numbers : HasNumbers c
+  pub place : HasPlace r c
+  pub slots : HasItsSlotRoom t r.slots c
 
 -- each of the changes can, once those before it are made
-abbrev pub AreReady : Tables → Room → List Prepared → Type 0
+abbrev pub AreReady : Tables → Room → List Change → Type 0
 AreReady t r [] = Unit {0}
-AreReady t r (p ∷ ps) = IsReady t r p × AreReady (after_change t p.change) (room_after r p.change) ps
-
--- the changes themselves
-abbrev pub changes_of : List Prepared → List Change
-changes_of ps = map (λ p. p.change) ps
+AreReady t r (c ∷ cs) = IsReady t r c × AreReady (after_change t c) (room_after r c) cs

@@ -1,9 +1,9 @@
 -- The memory that changes need for the rows that they put.
-use Rattle.std.specs.Prelude.{ℕ, ◌-◌, ◌<◌, ◌≤◌, List, Bool, true, false, count_by}
+use Rattle.std.specs.Prelude.{ℕ, ◌-◌, ◌<◌, ◌≤◌, List, Bool, true, false, count_by, drop, slice_get, unwrap_or}
 use Rattle.queue_rows.specs.declared.change.Change.{Change}
 use Rattle.queue_rows.specs.declared.change.Change.TheVariants as changes
 
--- for how many more rows of each kind there is memory
+-- for how many more rows of each kind there is memory, and for how many slots of each message that is moved, in the order of moves
 pub record Room : Type 0 where
   pub tables : ℕ
   pub queues : ℕ
@@ -11,6 +11,7 @@ pub record Room : Type 0 where
   pub schedules : ℕ
   pub messages : ℕ
   pub seen : ℕ
+  pub slots : List ℕ
 
 abbrev pub is_table_put : Change → Bool
 is_table_put (changes.PutTable row) = true
@@ -45,6 +46,10 @@ pub record HasRoom (r : Room) (cs : List Change) : Type 0 where
   pub messages : count_by is_message_put cs ≤ r.messages
   pub seen : count_by is_seen_put cs ≤ r.seen
 
+-- for how many slots of the next message that is moved there is memory
+abbrev pub next_slots : List ℕ → ℕ
+next_slots slots = unwrap_or (slice_get slots 0) 0
+
 -- there is memory for the row that a change puts
 abbrev pub HasPlace : Room → Change → Type 0
 HasPlace r (changes.PutTable row) = 0 < r.tables
@@ -63,4 +68,5 @@ room_after r (changes.PutSub row) = record r { subs = r.subs - 1 }
 room_after r (changes.PutSchedule row) = record r { schedules = r.schedules - 1 }
 room_after r (changes.Enqueued row) = record r { messages = r.messages - 1 }
 room_after r (changes.Seen row) = record r { seen = r.seen - 1 }
+room_after r (changes.Moved id queue at) = record r { slots = drop 1 r.slots }
 room_after r _ = r

@@ -4,6 +4,7 @@ ghost use Rattle.std.specs.HashMap.{get};
 ghost use Rattle.std.specs.List.{list_any};
 ghost use Rattle.message_store.specs.Prepared.{slots_added, is_move, TellsAdded, TellsMore, TellsSums};
 
+use crate::total::total;
 use payload_records::List;
 use queue_rows::Change;
 use std::alloc::AllocError;
@@ -11,13 +12,6 @@ use std::collections::HashMap;
 
 /// How many slots changes may add to the messages of each number.
 pub(crate) type AddedSlots = HashMap<u64, usize>;
-
-/// The sum. One that cannot be counted is want of memory.
-pub(crate) fn total(a: usize, b: usize) -> Result<usize, AllocError>
-    ensures { IfOk result (λ n. n ≡ a + b) }
-{
-    a.checked_add(b).ok_or(AllocError)
-}
 
 /// How many are told of that number.
 pub(crate) fn added_to(added: &AddedSlots, id: u64) -> usize

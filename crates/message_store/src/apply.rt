@@ -1,23 +1,23 @@
 // Commits made in open tables.
-ghost use Rattle.std.specs.Prelude.{◌≡◌, All, IfOk, OnOk, OnErr};
-ghost use Rattle.queue_rows.specs.Tables.{without_queue, without_table, after_change, after_all, after};
+ghost use Rattle.std.specs.Prelude.{◌≡◌, drop};
+ghost use Rattle.queue_rows.specs.Rows.{find_message};
+ghost use Rattle.queue_rows.specs.Tables.{without_queue, without_table, after_change, after_all, after, move_some};
 ghost use Rattle.queue_rows.specs.declared.change.Change.TheVariants as changes;
-ghost use Rattle.message_store.specs.Numbers.{HasNumbers};
 ghost use Rattle.message_store.specs.Open.{held, room_of};
-ghost use Rattle.message_store.specs.Room.{HasRoom, room_after};
-ghost use Rattle.message_store.specs.Prepared.{IsReady, AreReady, changes_of};
+ghost use Rattle.message_store.specs.Room.{next_slots, room_after};
+ghost use Rattle.message_store.specs.Prepared.{HasFewerSlots, IsReady, AreReady};
 
 use crate::enqueued::{enqueue, move_message};
 use crate::open::OpenTables;
-use crate::prepared::{Prepared, prepare};
-use crate::room::{RowKind, puts_of};
+use crate::row_room::RowRoom;
 use crate::rows::{
     has_queue, has_table, put, remove_exception_queue, remove_of_queue, remove_queue,
     remove_schedule, remove_sub, remove_table,
 };
 use payload_records::{List, Name};
-use queue_rows::{Change, SlotState};
-use std::alloc::AllocError;
+use queue_rows::{Change, Commit, SlotRow, SlotState};
+use std::alloc::Global;
+use std::collections::VecDeque;
 
 fn drop_queue(opened: &mut OpenTables, name: &Name)
     ensures held { held opened.new ≡ without_queue (held opened.old) name.now }
@@ -53,12 +53,32 @@ fn set_counters(opened: &mut OpenTables, next: u64, transaction: u64, latest: u6
     opened.latest = latest;
 }
 
-fn apply_change(opened: &mut OpenTables, prepared: Prepared)
-    requires { IsReady (held opened.old) (room_of opened.old) prepared }
-    ensures held { held opened.new ≡ after_change (held opened.old) prepared.change }
-    ensures room { room_of opened.new ≡ room_after (room_of opened.old) prepared.change }
+fn next_room(rooms: &mut VecDeque<RowRoom<SlotRow>>, alloc: Global) -> RowRoom<SlotRow>
+    ensures room { result ≡ next_slots rooms.old.items }
+    ensures rest { rooms.new.items ≡ drop 1 rooms.old.items }
 {
-    let Prepared { change, slots } = prepared;
+    match rooms.pop_front() {
+        Some(room) => room,
+        None => RowRoom::none(alloc),
+    }
+}
+
+fn move_next(opened: &mut OpenTables, id: u64, queue: Name, at: u64, alloc: Global)
+    requires { HasFewerSlots (held opened.old) id (next_slots opened.old.slots.items) }
+    ensures held { let old = held opened.old in
+        held opened.new ≡ move_some old (find_message old id) queue at }
+    ensures room { let old = room_of opened.old in
+        room_of opened.new ≡ record old { slots = drop 1 old.slots } }
+{
+    let slots = next_room(&mut opened.slots, alloc);
+    move_message(opened, id, queue, at, slots);
+}
+
+fn apply_change(opened: &mut OpenTables, change: Change, alloc: Global)
+    requires { IsReady (held opened.old) (room_of opened.old) change }
+    ensures held { held opened.new ≡ after_change (held opened.old) change }
+    ensures room { room_of opened.new ≡ room_after (room_of opened.old) change }
+{
     match change {
         Change::PutTable(row) => put(&mut opened.tables, row),
         Change::DropTable(name) => drop_table(opened, &name),
@@ -90,7 +110,7 @@ fn apply_change(opened: &mut OpenTables, prepared: Prepared)
         Change::Dropped { id, slot, at } => {
             opened.messages.set_state(id, slot, SlotState::Dropped, at)
         }
-        Change::Moved { id, queue, at } => move_message(opened, id, queue, at, slots),
+        Change::Moved { id, queue, at } => move_next(opened, id, queue, at, alloc),
         Change::Purged { id } => opened.messages.remove_message(id),
         Change::Seen(row) => opened.seen.push(row),
         Change::Counters {
@@ -101,63 +121,23 @@ fn apply_change(opened: &mut OpenTables, prepared: Prepared)
     }
 }
 
-// Gives the emptied list back, with its memory.
-fn apply_all(opened: &mut OpenTables, prepared: Vec<Prepared>) -> Vec<Prepared>
-    requires { AreReady (held opened.old) (room_of opened.old) prepared.items }
-    ensures { held opened.new ≡ after_all (held opened.old) (changes_of prepared.items) }
+fn apply_all(opened: &mut OpenTables, changes: List<Change>, alloc: Global)
+    requires { AreReady (held opened.old) (room_of opened.old) changes }
+    ensures { held opened.new ≡ after_all (held opened.old) changes }
 {
-    let mut prepared = prepared;
-    for change in prepared.drain(..) {
-        apply_change(opened, change);
+    let mut changes = changes.into_vec();
+    for change in changes.drain(..) {
+        apply_change(opened, change, alloc);
     }
-    prepared
 }
 
-fn make_room(opened: &mut OpenTables, changes: &List<Change>) -> Result<(), AllocError>
-    ensures held { held opened.new ≡ held opened.old }
-    ensures room { OnOk result (HasRoom (room_of opened.new) changes.now) }
-{
-    opened.tables.reserve(puts_of(RowKind::Table, changes))?;
-    opened.queues.reserve(puts_of(RowKind::Queue, changes))?;
-    opened.subs.reserve(puts_of(RowKind::Sub, changes))?;
-    opened
-        .schedules
-        .reserve(puts_of(RowKind::Schedule, changes))?;
-    opened.messages.reserve(puts_of(RowKind::Message, changes))?;
-    opened.seen.reserve(puts_of(RowKind::Seen, changes))
-}
-
-fn make_ready(
-    opened: &mut OpenTables,
-    changes: &List<Change>,
-    spare: Vec<Prepared>,
-) -> Result<Vec<Prepared>, AllocError>
-    requires { All HasNumbers changes.now }
-    ensures held { held opened.new ≡ held opened.old }
-    ensures changes { IfOk result (λ ps. changes_of ps.items ≡ changes.now) }
-    ensures ready { IfOk result (λ ps. AreReady (held opened.new) (room_of opened.new) ps.items) }
-{
-    make_room(opened, changes)?;
-    let prepared = prepare(&opened.messages, changes, spare)?;
-    Ok(prepared)
-}
-
-/// Makes the changes of a commit at that moment, in order, and gives the spare list back. At want of memory the
-/// tables hold what they held before.
+/// Makes the changes of a commit, in order, at its moment. It takes no memory.
 #[tactic(auto, unfolding(queue_rows::specs::Tables::after))]
-pub(crate) fn commit(
-    opened: &mut OpenTables,
-    changes: &List<Change>,
-    moment: u64,
-    spare: Vec<Prepared>,
-) -> Result<Vec<Prepared>, AllocError>
-    requires { All HasNumbers changes.now }
-    ensures ok { OnOk result (held opened.new
-        ≡ after (held opened.old) (record { moment = moment; changes = changes.now })) }
-    ensures err { OnErr result (held opened.new ≡ held opened.old) }
+pub(crate) fn apply(opened: &mut OpenTables, commit: Commit, alloc: Global)
+    requires { AreReady (held opened.old) (room_of opened.old) commit.changes }
+    ensures { held opened.new ≡ after (held opened.old) commit }
 {
-    let prepared = make_ready(opened, changes, spare)?;
-    let spare = apply_all(opened, prepared);
+    let Commit { moment, changes } = commit;
+    apply_all(opened, changes, alloc);
     opened.latest = opened.latest.max(moment);
-    Ok(spare)
 }

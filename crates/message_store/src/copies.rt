@@ -1,12 +1,12 @@
 // Copies of changes.
 ghost use Rattle.std.specs.Prelude.{◌≡◌, IfOk};
 
-use payload_records::Copied;
+use payload_records::{Copied, List};
 use queue_rows::Change;
 use std::alloc::AllocError;
 
 /// A copy, which is the same change.
-pub(crate) fn copy_of(change: &Change) -> Result<Change, AllocError>
+fn copy_of(change: &Change) -> Result<Change, AllocError>
     ensures { IfOk result (λ copy. copy ≡ change.now) }
 {
     match change {
@@ -75,4 +75,16 @@ pub(crate) fn copy_of(change: &Change) -> Result<Change, AllocError>
             latest: *latest,
         }),
     }
+}
+
+/// Copies, which are the same changes.
+pub(crate) fn copies_of(changes: &List<Change>) -> Result<List<Change>, AllocError>
+    ensures { IfOk result (λ copies. copies ≡ changes.now) }
+{
+    let mut copies = List::new(changes.allocator());
+    copies.reserve(changes.len())?;
+    for change in changes {
+        copies.push(copy_of(change)?)?;
+    }
+    Ok(copies)
 }

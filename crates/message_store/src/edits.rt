@@ -1,13 +1,14 @@
 // Changes of one message.
-ghost use Rattle.std.specs.Prelude.{◌≡◌, ◌<◌, length};
+ghost use Rattle.std.specs.Prelude.{◌≡◌, ◌<◌, [], ◌∷◌, ◌++◌, length};
 ghost use Rattle.queue_rows.specs.Rows.{with_slot};
 ghost use Rattle.queue_rows.specs.Tables.{in_state, moved_to, retried};
 ghost use Rattle.message_store.specs.Moves.{moved_within};
 
-use crate::slots::SlotRoom;
-use payload_records::Name;
-use queue_rows::{MsgRow, SlotState};
+use crate::row_room::RowRoom;
+use payload_records::{List, Name};
+use queue_rows::{MsgRow, SlotRow, SlotState};
 use row_tree::Edit;
+use std::mem;
 
 /// A slot is in that state from a moment on.
 #[derive(Drop)]
@@ -41,7 +42,7 @@ pub(crate) struct MoveTo {
     /// The moment.
     pub(crate) at: u64,
     /// The memory.
-    pub(crate) room: SlotRoom,
+    pub(crate) room: RowRoom<SlotRow>,
 }
 
 impl Edit<MsgRow> for SetState {
@@ -77,12 +78,21 @@ impl Edit<MsgRow> for MoveTo {
     }
 }
 
-fn move_to(message: &mut MsgRow, queue: Name, at: u64, room: SlotRoom)
+fn push_slot(slots: &mut List<SlotRow>, slot: SlotRow, room: RowRoom<SlotRow>)
+    requires { length slots.old < room }
+    ensures { slots.new ≡ slots.old ++ slot ∷ [] }
+{
+    let mut open = room.open(mem::replace(slots, List::new(slots.allocator())));
+    open.push(slot);
+    *slots = open.into_list();
+}
+
+fn move_to(message: &mut MsgRow, queue: Name, at: u64, room: RowRoom<SlotRow>)
     requires { length message.old.slots < room }
     ensures { message.new ≡ moved_to queue at message.old }
 {
     let zero = message.slot_zero(at);
     message.queue = queue;
     message.moved = true;
-    room.push_behind(&mut message.slots, zero);
+    push_slot(&mut message.slots, zero, room);
 }

@@ -1,17 +1,18 @@
 // Messages that are put into queues, and moved between them.
-ghost use Rattle.std.specs.Prelude.{◌≡◌, ◌==◌, ◌^◌, ◌<◌, ◌-◌, length, IfSome};
+ghost use Rattle.std.specs.Prelude.{◌≡◌, ◌==◌, ◌^◌, ◌<◌, ◌-◌};
 ghost use Rattle.queue_rows.specs.Rows.{find_message};
 ghost use Rattle.queue_rows.specs.Tables.{is_grouped, lowered_to, with_message, move_some};
 ghost use Rattle.message_store.specs.Lowered.{with_lowered};
 ghost use Rattle.message_store.specs.Open.{held, room_of};
+ghost use Rattle.message_store.specs.Prepared.{HasFewerSlots};
 
 use crate::open::OpenTables;
 use crate::open_rows::OpenRows;
+use crate::row_room::RowRoom;
 use crate::rows::{has_queue, queue_place, table_row};
-use crate::slots::SlotRoom;
 use payload_records::Name;
 use place_keys::Place;
-use queue_rows::{MsgRow, QueueRow, TableRow};
+use queue_rows::{MsgRow, QueueRow, SlotRow, TableRow};
 
 fn is_grouped(tables: &[TableRow], queue: &QueueRow) -> bool
     ensures { result ≡ is_grouped tables.now queue.now }
@@ -61,8 +62,14 @@ pub(crate) fn enqueue(opened: &mut OpenTables, row: MsgRow)
 
 /// The first message of that number stands in that queue, with slot 0 behind its slots. Where the one or the other is not
 /// there, nothing changes.
-pub(crate) fn move_message(opened: &mut OpenTables, id: u64, queue: Name, at: u64, slots: SlotRoom)
-    requires { IfSome (find_message (held opened.old) id) (λ m. length m.slots < slots) }
+pub(crate) fn move_message(
+    opened: &mut OpenTables,
+    id: u64,
+    queue: Name,
+    at: u64,
+    slots: RowRoom<SlotRow>,
+)
+    requires { HasFewerSlots (held opened.old) id slots }
     ensures held { let old = held opened.old in
         held opened.new ≡ move_some old (find_message old id) queue at }
     ensures room { room_of opened.new ≡ room_of opened.old }

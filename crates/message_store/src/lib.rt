@@ -3,18 +3,24 @@
 
 mod added_slots;
 mod apply;
+mod beside;
 mod copies;
 mod edits;
 mod enqueued;
 mod entry;
+mod find;
 mod message_index;
+mod numbers;
 mod open;
 mod open_messages;
 mod open_rows;
-mod prepared;
+mod prepared_store;
 mod room;
+mod row_room;
 mod rows;
-mod slots;
+mod slot_rooms;
 mod store;
+mod total;
 
+pub use prepared_store::PreparedStore;
 pub use store::Store;

@@ -5,7 +5,8 @@ ghost use Rattle.std.specs.List.{prefix_len};
 ghost use Rattle.message_store.specs.Stamps.{AreRising, TellsChanged, with_entry, without_entry};
 
 use crate::entry::{AtStamp, Entry};
-use row_tree::{Stock, Tree};
+use queue_rows::MsgRow;
+use row_tree::{Spare, Stock, Tree};
 use std::alloc::{AllocError, Global};
 use std::collections::HashMap;
 use std::marker::Model;
@@ -19,13 +20,14 @@ enum Place {
     Several,
 }
 
-/// Where messages stand in a list, by their ids. Contracts see the ids in the order of the list, and for how many
-/// more there is memory. An id is found, put last and taken out in about as many steps as their number has binary
+/// Where messages stand in a list, by their ids, with places for more messages. Contracts see the ids in the order of the
+/// list, and for how many more there is memory. An id is found, put last and taken out in about as many steps as their number has binary
 /// digits.
 #[derive(Drop)]
 pub(crate) struct MessageIndex {
     entries: Tree<Entry>,
     spares: Stock<Entry>,
+    rows: Stock<MsgRow>,
     places: HashMap<u64, Place>,
     next: u64,
     room: usize,
@@ -50,7 +52,7 @@ impl Model for MessageIndex {
         × (i.room ≤ i.spares)
         × (i.room ≤ spare i.places)
         × (length i.entries + i.room ≤ hash_map_len i.places + spare i.places)
-        × (i.next + i.room < 2 ^ 64) × (length i.entries + i.room ≤ MAX) };
+        × (i.next + i.room < 2 ^ 64) × (length i.entries + i.room ≤ MAX) × (i.room ≤ i.rows) };
 }
 
 impl MessageIndex {
@@ -61,6 +63,7 @@ impl MessageIndex {
         MessageIndex {
             entries: Tree::new(),
             spares: Stock::new(alloc),
+            rows: Stock::new(alloc),
             places: HashMap::new(alloc),
             next: 0,
             room: 0,
@@ -82,9 +85,17 @@ impl MessageIndex {
         }
         let keyless = ids.saturating_sub(self.places.len());
         self.spares.reserve(room)?;
+        self.rows.reserve(room)?;
         self.places.reserve(keyless + room)?;
         self.room = room;
         Ok(())
+    }
+
+    /// For how many more there is memory.
+    pub(crate) fn room(&self) -> usize
+        ensures { result ≡ self.now.room }
+    {
+        self.room
     }
 
     /// Where the first of that id stands. It takes no memory.
@@ -111,9 +122,10 @@ impl MessageIndex {
         }
     }
 
-    /// Puts an id last. It takes no memory.
-    pub(crate) fn push(&mut self, id: u64)
+    /// Puts an id last, and gives the place for its message. It takes no memory.
+    pub(crate) fn push(&mut self, id: u64) -> Spare<MsgRow>
         requires { 0 < self.old.room }
+        ensures countable { length self.old.ids < usize.MAX }
         ensures ids { self.new.ids ≡ self.old.ids ++ id ∷ [] }
         ensures room { self.old.room ≡ self.new.room + 1 }
     {
@@ -125,6 +137,7 @@ impl MessageIndex {
         self.entries.push(entry, self.spares.take());
         self.next += 1;
         self.room -= 1;
+        self.rows.take()
     }
 
     /// Takes the id at an index out. It takes no memory.

@@ -1,13 +1,16 @@
 // The tables of a database, while a commit is made.
 ghost use Rattle.std.specs.Prelude.{◌≡◌};
 ghost use Rattle.message_store.specs.Messages.{ids_of};
-ghost use Rattle.message_store.specs.Open.{held};
+ghost use Rattle.message_store.specs.Open.{held, room_of};
+ghost use Rattle.message_store.specs.Beside.{room_beside};
 
-use crate::message_index::MessageIndex;
+use crate::beside::Beside;
 use crate::open_messages::OpenMessages;
 use crate::open_rows::OpenRows;
-use queue_rows::{MsgRow, QueueRow, ScheduleRow, SeenRow, SubRow, TableRow, Tables};
-use row_tree::Stock;
+use crate::row_room::RowRoom;
+use queue_rows::{QueueRow, ScheduleRow, SeenRow, SlotRow, SubRow, TableRow, Tables};
+use std::alloc::Global;
+use std::collections::VecDeque;
 
 /// What a database holds, with memory for more rows of each kind.
 #[derive(Drop)]
@@ -24,6 +27,8 @@ pub(crate) struct OpenTables {
     pub(crate) messages: OpenMessages,
     /// What has arrived from the other database.
     pub(crate) seen: OpenRows<SeenRow>,
+    /// Memory for the slots of the messages that are moved, in the order of moves.
+    pub(crate) slots: VecDeque<RowRoom<SlotRow>>,
     /// One above the greatest id that was committed.
     pub(crate) next: u64,
     /// One above the greatest group that was committed.
@@ -33,30 +38,32 @@ pub(crate) struct OpenTables {
 }
 
 impl OpenTables {
-    /// The tables, opened, with the index of their messages and places for more. It takes no memory.
-    pub(crate) fn of(tables: Tables, index: MessageIndex, places: Stock<MsgRow>) -> OpenTables
-        requires { index.ids ≡ ids_of tables.messages }
-        ensures { held result ≡ tables }
+    /// The tables, opened, with what is kept beside them. It takes no memory.
+    pub(crate) fn of(tables: Tables, beside: Beside) -> OpenTables
+        requires { beside.index.ids ≡ ids_of tables.messages }
+        ensures held { held result ≡ tables }
+        ensures room { room_of result ≡ room_beside tables beside }
     {
         OpenTables {
-            tables: OpenRows::of(tables.tables),
-            queues: OpenRows::of(tables.queues),
-            subs: OpenRows::of(tables.subs),
-            schedules: OpenRows::of(tables.schedules),
-            messages: OpenMessages::of(tables.messages, index, places),
-            seen: OpenRows::of(tables.seen),
+            tables: beside.tables.open(tables.tables),
+            queues: beside.queues.open(tables.queues),
+            subs: beside.subs.open(tables.subs),
+            schedules: beside.schedules.open(tables.schedules),
+            messages: OpenMessages::of(tables.messages, beside.index),
+            seen: beside.seen.open(tables.seen),
+            slots: beside.slots,
             next: tables.next,
             transaction: tables.transaction,
             latest: tables.latest,
         }
     }
 
-    /// The tables, closed again, the index of their messages and the places that are left. It takes no memory.
-    pub(crate) fn close(self) -> (Tables, MessageIndex, Stock<MsgRow>)
+    /// The tables, closed again, and what is kept beside them. It takes no memory.
+    pub(crate) fn close(self, alloc: Global) -> (Tables, Beside)
         ensures tables { result.0 ≡ held self }
-        ensures index { result.1.ids ≡ ids_of result.0.messages }
+        ensures index { result.1.index.ids ≡ ids_of result.0.messages }
     {
-        let (messages, index, places) = self.messages.close();
+        let (messages, index) = self.messages.close();
         let tables = Tables {
             tables: self.tables.into_list(),
             queues: self.queues.into_list(),
@@ -68,6 +75,6 @@ impl OpenTables {
             transaction: self.transaction,
             latest: self.latest,
         };
-        (tables, index, places)
+        (tables, Beside::of(alloc, index))
     }
 }

@@ -1,18 +1,18 @@
 // The messages of a database, while a commit is made.
-ghost use Rattle.std.specs.Prelude.{◌≡◌, ◌==◌, ◌+◌, ◌-◌, ◌<◌, ◌≤◌, [], ◌∷◌, ◌++◌, IfSome, IsTrue, OnOk, OnErr, count_by, filter, find, length, not, option_copied, option_map, position, remove, slice_get};
+ghost use Rattle.std.specs.Prelude.{◌≡◌, ◌==◌, ◌+◌, ◌-◌, ◌<◌, ◌≤◌, [], ◌∷◌, ◌++◌, IfSome, IsTrue, OnOk, OnErr, count_by, filter, find, length, not, option_copied, position, remove};
 ghost use Rattle.std.specs.Str.{bytes_eq};
 ghost use Rattle.queue_rows.specs.Rows.{with_slot};
 ghost use Rattle.queue_rows.specs.Tables.{in_state, moved_to, retried};
-ghost use Rattle.message_store.specs.Messages.{ids_of, with_changed, KeepsId};
+ghost use Rattle.message_store.specs.Messages.{ids_of, with_changed, stands_in, KeepsId};
 ghost use Rattle.message_store.specs.Rows.{filtered, without_first};
 
 use crate::edits::{MoveTo, Retry, SetState};
+use crate::find::find;
 use crate::message_index::MessageIndex;
-use crate::slots::SlotRoom;
+use crate::row_room::RowRoom;
 use payload_records::Name;
-use queue_rows::{MsgRow, SlotState};
-use row_tree::{Edit, Stock, Tree};
-use std::alloc::AllocError;
+use queue_rows::{MsgRow, SlotRow, SlotState};
+use row_tree::{Edit, Tree};
 use std::marker::Model;
 
 /// Messages, with memory for so many more, and an index of them by their numbers. Contracts see the messages and
@@ -21,25 +21,19 @@ use std::marker::Model;
 pub(crate) struct OpenMessages {
     rows: Tree<MsgRow>,
     index: MessageIndex,
-    places: Stock<MsgRow>,
-    room: usize,
 }
 
 impl Model for OpenMessages {
-    ghost use Rattle.std.specs.Prelude.{◌+◌, ◌≤◌, length};
+    ghost use Rattle.std.specs.Prelude.{◌≡◌};
     ghost use Rattle.queue_rows.specs.declared.rows.MsgRow.{MsgRow};
-    ghost use Rattle.message_store.specs.Messages.{IsIndexed};
+    ghost use Rattle.message_store.specs.Messages.{ids_of};
     ghost use Rattle.message_store.specs.Rows.{Rows};
 
     ghost Value = { Rows MsgRow };
 
-    ghost view = { λ m. record { items = m.rows; room = m.room } };
+    ghost view = { λ m. record { items = m.rows; room = m.index.room } };
 
-    ghost use Rattle.std.below.core.specs.declared.int.usize.TheConstants.{MAX};
-
-    ghost invariant = { λ m.
-        IsIndexed (record { items = m.rows; room = m.room }) m.index
-        × (m.room ≤ m.places) × (length m.rows + m.room ≤ MAX) };
+    ghost invariant = { λ m. m.index.ids ≡ ids_of m.rows };
 }
 
 fn take_out(rows: &mut Tree<MsgRow>, at: usize)
@@ -50,33 +44,20 @@ fn take_out(rows: &mut Tree<MsgRow>, at: usize)
 }
 
 impl OpenMessages {
-    /// The messages of tables, with their index and places for more. It takes no memory.
-    pub(crate) fn of(rows: Tree<MsgRow>, index: MessageIndex, places: Stock<MsgRow>) -> OpenMessages
+    /// The messages of tables, with their index. It takes no memory.
+    pub(crate) fn of(rows: Tree<MsgRow>, index: MessageIndex) -> OpenMessages
         requires { index.ids ≡ ids_of rows }
-        ensures { result ≡ record { items = rows; room = 0 } }
+        ensures { result ≡ record { items = rows; room = index.room } }
     {
-        let _most = rows.len();
-        OpenMessages {
-            rows,
-            index,
-            places,
-            room: 0,
-        }
+        OpenMessages { rows, index }
     }
 
-    /// The messages, their index and the places that are left. It takes no memory.
-    pub(crate) fn close(self) -> (Tree<MsgRow>, MessageIndex, Stock<MsgRow>)
+    /// The messages and their index. It takes no memory.
+    pub(crate) fn close(self) -> (Tree<MsgRow>, MessageIndex)
         ensures rows { result.0 ≡ self.items }
         ensures index { result.1.ids ≡ ids_of self.items }
     {
-        (self.rows, self.index, self.places)
-    }
-
-    /// The messages.
-    pub(crate) fn rows(&self) -> &Tree<MsgRow>
-        ensures { result.now ≡ self.now.items }
-    {
-        &self.rows
+        (self.rows, self.index)
     }
 
     /// Where the first message of that number stands. It does not go over the messages.
@@ -91,29 +72,7 @@ impl OpenMessages {
     pub(crate) fn find(&self, id: u64) -> Option<&MsgRow>
         ensures { option_copied result ≡ find (λ m. m.id == id) self.now.items }
     {
-        let at = self.position(id)?;
-        self.rows.get(at)
-    }
-
-    /// Whether no two messages have that number. It does not go over the messages.
-    pub(crate) fn is_alone(&self, id: u64) -> bool
-        ensures { IsTrue result → count_by (λ m. m.id == id) self.now.items ≤ 1 }
-    {
-        self.index.is_alone(id)
-    }
-
-    /// Takes memory for so many more messages.
-    pub(crate) fn reserve(&mut self, room: usize) -> Result<(), AllocError>
-        ensures ok { OnOk result (self.new ≡ record self.old { room = room }) }
-        ensures err { OnErr result (self.new ≡ self.old) }
-    {
-        if self.rows.len().checked_add(room).is_none() {
-            return Err(AllocError);
-        }
-        self.index.reserve(room.max(self.room))?;
-        self.places.reserve(room)?;
-        self.room = room;
-        Ok(())
+        find(&self.rows, &self.index, id)
     }
 
     /// Puts a message last. It takes no memory.
@@ -121,9 +80,8 @@ impl OpenMessages {
         requires { 0 < self.old.room }
         ensures { self.new ≡ record { items = self.old.items ++ row ∷ []; room = self.old.room - 1 } }
     {
-        self.index.push(row.id);
-        self.room -= 1;
-        self.rows.push(row, self.places.take());
+        let spare = self.index.push(row.id);
+        self.rows.push(row, spare);
     }
 
     /// Takes the first message of that number out, if there is one. It takes no memory.
@@ -145,7 +103,7 @@ impl OpenMessages {
 
     // Whether the message at an index stands in that queue; None past the end.
     fn stands_in(&self, at: usize, queue: &Name) -> Option<bool>
-        ensures stands { result ≡ option_map (λ m. bytes_eq m.queue queue.now) (slice_get self.now.items at) }
+        ensures stands { result ≡ stands_in queue.now self.now.items at }
         ensures within { IfSome result (λ _. at < length self.now.items) }
         ensures countable { length self.now.items ≤ usize.MAX }
     {
@@ -210,7 +168,7 @@ impl OpenMessages {
 
     /// The first message of that number stands in that queue, if there is one, with slot 0 behind its slots. It
     /// takes no memory.
-    pub(crate) fn move_to(&mut self, id: u64, queue: Name, at: u64, room: SlotRoom)
+    pub(crate) fn move_to(&mut self, id: u64, queue: Name, at: u64, room: RowRoom<SlotRow>)
         requires { IfSome (find (λ m. m.id == id) self.old.items) (λ m. length m.slots < room) }
         ensures { self.new ≡ with_changed id (moved_to queue at) self.old }
     {

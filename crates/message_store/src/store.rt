@@ -5,28 +5,18 @@ ghost use Rattle.queue_rows.specs.Tables.{empty_tables};
 ghost use Rattle.queue_rows.specs.World.{committed_tables};
 ghost use Rattle.message_store.specs.Numbers.{HasNumbers};
 
-use crate::apply::commit;
-use crate::message_index::MessageIndex;
-use crate::open::OpenTables;
-use crate::prepared::Prepared;
+use crate::PreparedStore;
 use exception_queues::MessageTables;
 use payload_records::List;
 use queue_rows::{Change, MsgRow, Tables};
-use row_tree::Stock;
 use std::alloc::{AllocError, Global};
 use std::marker::Model;
-use std::mem;
 
-/// The tables of a database, and an index of their messages by their numbers. Contracts see the tables of the
+/// The tables of a database, for those who commit in one call and need not know of memory. Contracts see the tables of the
 /// definitions.
 #[derive(Drop)]
 pub struct Store {
-    tables: Tables,
-    index: MessageIndex,
-    // What an earlier commit left.
-    places: Stock<MsgRow>,
-    // Empty, with the memory of the largest commit so far, so that a commit needs no list of its own.
-    spare: Vec<Prepared>,
+    inner: PreparedStore,
 }
 
 impl Model for Store {
@@ -38,12 +28,7 @@ impl Model for Store {
 
     ghost coded = { Prim.hlevel (codes, cond.the_row.coded) };
 
-    ghost use Rattle.std.specs.Prelude.{◌≡◌};
-    ghost use Rattle.message_store.specs.Messages.{ids_of};
-
-    ghost view = { λ s. s.tables };
-
-    ghost invariant = { λ s. s.index.ids ≡ ids_of s.tables.messages };
+    ghost view = { λ s. s.inner.tables };
 }
 
 impl Store {
@@ -52,10 +37,7 @@ impl Store {
         ensures { result ≡ empty_tables }
     {
         Store {
-            tables: Tables::new(alloc),
-            index: MessageIndex::new(alloc),
-            places: Stock::new(alloc),
-            spare: Vec::new(alloc),
+            inner: PreparedStore::new(alloc),
         }
     }
 
@@ -63,15 +45,14 @@ impl Store {
     pub fn tables(&self) -> &Tables
         ensures { result.now ≡ self.now }
     {
-        &self.tables
+        self.inner.tables()
     }
 
     /// The message of that number. It takes no memory, and does not go over the messages.
     pub fn message(&self, id: u64) -> Option<&MsgRow>
         ensures { option_copied result ≡ find_message self.now id }
     {
-        let at = self.index.position(id)?;
-        self.tables.messages.get(at)
+        self.inner.message(id)
     }
 
     /// Makes the changes of a commit at that moment, in order; an empty list is no commit. All memory is taken
@@ -81,22 +62,7 @@ impl Store {
         ensures ok { OnOk result (self.new ≡ committed_tables self.old changes.now moment) }
         ensures err { OnErr result (self.new ≡ self.old) }
     {
-        if changes.is_empty() {
-            return Ok(());
-        }
-        let alloc = changes.allocator();
-        let tables = mem::replace(&mut self.tables, Tables::new(alloc));
-        let index = mem::replace(&mut self.index, MessageIndex::new(alloc));
-        let places = mem::replace(&mut self.places, Stock::new(alloc));
-        let spare = mem::replace(&mut self.spare, Vec::new(alloc));
-        let mut open = OpenTables::of(tables, index, places);
-        let outcome = commit(&mut open, changes, moment, spare);
-        let (tables, index, places) = open.close();
-        self.tables = tables;
-        self.index = index;
-        self.places = places;
-        self.spare = outcome?;
-        Ok(())
+        self.inner.commit(changes, moment)
     }
 }
 

@@ -23,4 +23,5 @@ invariant_of-self c =
       omega (arith, length-append es (e ∷ [])),
       omega arith,
       omega (arith, length-append es (e ∷ [])),
+      omega arith,
     )

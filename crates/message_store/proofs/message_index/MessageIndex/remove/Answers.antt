@@ -28,6 +28,7 @@ invariant_of-self c =
       omega arith,
       omega arith,
       omega arith,
+      omega arith,
     )
 
 pub returns-clause-ids : goal.returns-clause-ids

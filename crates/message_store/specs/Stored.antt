@@ -1,0 +1,15 @@
+-- What contracts see of a store.
+use Rattle.std.specs.Prelude.{List}
+use Rattle.queue_rows.specs.declared.tables.Tables.{Tables}
+use Rattle.queue_rows.specs.declared.change.Change.{Change}
+use Rattle.message_store.specs.Prepared.{AreReady}
+use Rattle.message_store.specs.Room.{Room}
+
+-- the tables, and for how much more there is memory
+pub record Stored : Type 0 where
+  pub tables : Tables
+  pub room : Room
+
+-- the store is prepared for these changes: it can make them without memory
+unfoldable pub IsPreparedFor : Stored → List Change → Type 0
+IsPreparedFor s cs = AreReady s.tables s.room cs

@@ -1,0 +1,71 @@
+// What is kept beside tables, for the commit to come.
+ghost use Rattle.std.specs.Prelude.{◌≡◌, OnOk, []};
+ghost use Rattle.message_store.specs.Beside.{room_beside};
+ghost use Rattle.message_store.specs.Room.{HasRoom};
+
+use crate::message_index::MessageIndex;
+use crate::room::{RowKind, puts_of};
+use crate::row_room::RowRoom;
+use payload_records::List;
+use queue_rows::{Change, QueueRow, ScheduleRow, SeenRow, SlotRow, SubRow, TableRow, Tables};
+use std::alloc::{AllocError, Global};
+use std::collections::VecDeque;
+
+/// The index of messages by their numbers, and the memory that a commit was prepared with.
+#[derive(Drop)]
+pub(crate) struct Beside {
+    /// The index, with memory for more messages.
+    pub(crate) index: MessageIndex,
+    /// Memory for queue tables.
+    pub(crate) tables: RowRoom<TableRow>,
+    /// Memory for queues.
+    pub(crate) queues: RowRoom<QueueRow>,
+    /// Memory for subscribers.
+    pub(crate) subs: RowRoom<SubRow>,
+    /// Memory for schedules.
+    pub(crate) schedules: RowRoom<ScheduleRow>,
+    /// Memory for what arrives from the other database.
+    pub(crate) seen: RowRoom<SeenRow>,
+    /// Memory for the slots of the messages that are moved, in the order of moves.
+    pub(crate) slots: VecDeque<RowRoom<SlotRow>>,
+}
+
+impl Beside {
+    /// This index, and no memory for rows. It takes no memory.
+    pub(crate) fn of(alloc: Global, index: MessageIndex) -> Beside
+        ensures { result.index ≡ index }
+    {
+        Beside {
+            index,
+            tables: RowRoom::none(alloc),
+            queues: RowRoom::none(alloc),
+            subs: RowRoom::none(alloc),
+            schedules: RowRoom::none(alloc),
+            seen: RowRoom::none(alloc),
+            slots: VecDeque::new(alloc),
+        }
+    }
+
+    /// Takes memory for each row that the changes may put.
+    pub(crate) fn reserve(
+        &mut self,
+        tables: &Tables,
+        changes: &List<Change>,
+    ) -> Result<(), AllocError>
+        ensures ids { self.new.index.ids ≡ self.old.index.ids }
+        ensures slots { self.new.slots.items ≡ self.old.slots.items }
+        ensures room { OnOk result (HasRoom (room_beside tables.now self.new) changes.now) }
+    {
+        self.tables
+            .reserve(&tables.tables, puts_of(RowKind::Table, changes))?;
+        self.queues
+            .reserve(&tables.queues, puts_of(RowKind::Queue, changes))?;
+        self.subs
+            .reserve(&tables.subs, puts_of(RowKind::Sub, changes))?;
+        self.schedules
+            .reserve(&tables.schedules, puts_of(RowKind::Schedule, changes))?;
+        self.seen
+            .reserve(&tables.seen, puts_of(RowKind::Seen, changes))?;
+        self.index.reserve(puts_of(RowKind::Message, changes))
+    }
+}
