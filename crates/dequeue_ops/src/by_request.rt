@@ -28,7 +28,8 @@ fn position_in<'a>(
     queue: &Name,
     consumer: Option<&Name>,
 ) -> Option<&'a Position>
-    ensures { option_copied result ≡ find (is_position queue.now (option_copied consumer.entry)) positions.now }
+    ensures { option_copied result
+        ≡ find (is_position queue.now (option_copied consumer.entry)) positions.now }
 {
     positions.iter().find(|p| is_position(queue, consumer, *p))
 }
@@ -79,7 +80,8 @@ fn give_message<T: MessageTables>(
 ) -> Result<Effect, AllocError>
     requires commits { MayCommit (T.tables store.now) asked.now.request.now.moment }
     requires sound { IsSoundFor asked.now message.now }
-    ensures { IfOk result (Does asked.now.request.now (by_name (T.tables store.now) asked.now (Some message.now))) }
+    ensures { IfOk result
+        (Does asked.now.request.now (by_name (T.tables store.now) asked.now (Some message.now))) }
 {
     let request = asked.request;
     match claim(request.locks, request.actor, &pick_of(asked), message) {

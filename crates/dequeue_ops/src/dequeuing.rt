@@ -44,7 +44,8 @@ fn dequeue_where<'a, T: ChoosesMessages>(
     requires can { CanDequeue (T.tables store.now) request.now }
     requires queue { find_queue (T.tables store.now) request.now.ask.now.queue ≡ Some queue.now }
     requires table { find_table (T.tables store.now) queue.now.table ≡ Some table.now }
-    ensures { IfOk result (Does request.now (on_condition (T.tables store.now) request.now queue.now table.now)) }
+    ensures { IfOk result
+        (Does request.now (on_condition (T.tables store.now) request.now queue.now table.now)) }
 {
     match read_checked(request.alloc, request.ask.condition.as_ref(), &table.fields) {
         Ok(condition) => {

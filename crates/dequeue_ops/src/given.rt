@@ -93,7 +93,8 @@ fn locking(
     slot: u32,
     delivery: Delivery,
 ) -> Result<Effect, AllocError>
-    ensures { IfOk result (λ e. e ≡ record (showing delivery) { mark = Some (mark_of asked.now false message.now slot) }) }
+    ensures { IfOk result
+        (λ e. e ≡ record (showing delivery) { mark = Some (mark_of asked.now false message.now slot) }) }
 {
     let mark = mark_on(asked, false, message, slot)?;
     let mut effect = showing(asked.request.alloc, delivery);
@@ -138,7 +139,8 @@ fn removal<T: MessageTables>(
     slot: u32,
 ) -> Result<List<Change>, AllocError>
     requires { MayCommit (T.tables store.now) asked.now.request.now.moment }
-    ensures { IfOk result (λ changes. changes ≡ commit_of (T.tables store.now) asked.now.request.now.moment (Remove id slot ∷ [])) }
+    ensures { IfOk result (λ changes. changes
+        ≡ commit_of (T.tables store.now) asked.now.request.now.moment (Remove id slot ∷ [])) }
 {
     let request = asked.request;
     let pending = removal_alone(request.alloc, id, slot)?;
@@ -176,7 +178,8 @@ fn give_as<T: MessageTables>(
     requires commits { MayCommit (T.tables store.now) asked.now.request.now.moment }
     requires reply { IsReply asked.now message.now slot delivery.reply }
     requires free { IsFreeToGive asked.now message.now slot }
-    ensures { IfOk result (Does asked.now.request.now (giving (T.tables store.now) asked.now delivery.position message.now slot)) }
+    ensures { IfOk result (Does asked.now.request.now
+        (giving (T.tables store.now) asked.now delivery.position message.now slot)) }
 {
     match (asked.request.ask.mode, asked.request.ask.visibility) {
         (Mode::Browse, _) => Ok(showing(asked.request.alloc, delivery)),
@@ -203,7 +206,8 @@ pub(crate) fn give<T: MessageTables>(
 ) -> Result<Effect, AllocError>
     requires commits { MayCommit (T.tables store.now) asked.now.request.now.moment }
     requires free { IsFreeToGive asked.now message.now slot }
-    ensures { IfOk result (Does asked.now.request.now (giving (T.tables store.now) asked.now position message.now slot)) }
+    ensures { IfOk result (Does asked.now.request.now
+        (giving (T.tables store.now) asked.now position message.now slot)) }
 {
     let delivery = Delivery {
         reply: message_reply(asked, message, slot)?,

@@ -41,7 +41,8 @@ fn has_message_by<T: ChoosesMessages, L: Ledger>(
     requires name { blank.name ≡ L.name }
     requires parts { blank.parts ≡ L.parts }
     requires some { 0 < blank.parts }
-    requires sound { AreSound (marks_of locks.now actor) pick.now.queue.now pick.now.table.now (T.tables store.now).messages }
+    requires sound { AreSound (marks_of locks.now actor)
+        pick.now.queue.now pick.now.table.now (T.tables store.now).messages }
     ensures { IsFound (T.tables store.now) locks.now actor pick.now result }
 {
     let mut steps = Steps::<L>::new(blank);
@@ -53,7 +54,8 @@ fn has_message_by<T: ChoosesMessages, L: Ledger>(
 }
 
 fn has_message<T: ChoosesMessages>(store: &T, locks: &RowLocks, actor: u32, pick: &Pick<'_>) -> bool
-    requires { AreSound (marks_of locks.now actor) pick.now.queue.now pick.now.table.now (T.tables store.now).messages }
+    requires { AreSound (marks_of locks.now actor)
+        pick.now.queue.now pick.now.table.now (T.tables store.now).messages }
     ensures { IsFound (T.tables store.now) locks.now actor pick.now result }
 {
     has_message_by::<T, Brand>(store, locks, actor, pick, Blank::new(1))
