@@ -1,6 +1,6 @@
 -- The message that is chosen is free for the session, unless it is only browsed.
-use Rattle.std.proofs.Common.{◌≡◌, ℕ, List, [], ◌∷◌, Bool, true, false, not, Option, Some, None, refl, sym, ap, ◌∙◌, subst, All, IfSome, ◌&&◌, ◌||◌, inl, inr}
-use Rattle.std.specs.Prelude.{◌==◌, filter, find, fold, int_lt, pos, if◌then◌else◌}
+use Rattle.std.proofs.Common.{◌≡◌, ℕ, List, [], ◌∷◌, Bool, true, false, not, Option, Some, None, refl, sym, subst, All, IfSome, ◌&&◌, ◌||◌, inl, inr}
+use Rattle.std.specs.Prelude.{◌==◌, find, fold, int_lt, pos, if◌then◌else◌}
 use Rattle.std.specs.Str.{bytes_eq}
 use Rattle.std.proofs.lemmas.Bool.{and_parts, both_ways, cases_Bool, not-true, false≢true}
 use Rattle.std.proofs.lemmas.List.Elements.{All-filter, All-head, All-tail, filter_passes}

@@ -1,12 +1,9 @@
 -- What effects mean for the sessions that ask.
-use Rattle.std.proofs.Common.{◌≡◌, ℕ, List, [], ◌∷◌, ◌++◌, Bool, true, false, Option, Some, None, refl, sym, ap, ◌∙◌, subst, IfSome}
-use Rattle.std.specs.Prelude.{slice_get}
-use Rattle.slot_marks.specs.Marks.{SessionMarks, IsFreeFor, marks_of, taken}
-use Rattle.slot_marks.specs.declared.mark.Mark.{Mark}
-use Rattle.queue_rows.specs.Groups.{group_of}
+use Rattle.std.proofs.Common.{◌≡◌, ℕ, List, [], ◌∷◌, ◌++◌, true, false, Some, refl, sym, ap, ◌∙◌, subst}
+use Rattle.slot_marks.specs.Marks.{IsFreeFor, taken}
 use Rattle.queue_rows.specs.Commits.{commit_of}
 use Rattle.queue_rows.specs.Session.{Session, without_mark}
-use Rattle.queue_rows.specs.Meaning.{Meaning, answers, refused}
+use Rattle.queue_rows.specs.Meaning.{Meaning, answers}
 use Rattle.queue_rows.specs.Dequeueing as def
 use Rattle.queue_rows.specs.Dequeueing.{Look, chosen, dequeue, given_by, given_chosen, given_in, message_reply, slot_in}
 use Rattle.queue_rows.specs.declared.tables.Tables.{Tables}

@@ -1,42 +1,21 @@
 // A message that is given, by the mode and visibility that are asked for.
 ghost use Rattle.std.specs.Prelude.{◌≡◌, [], ◌∷◌, true, false, Some, IfOk};
 ghost use Rattle.queue_rows.specs.Commits.{commit_of};
-ghost use Rattle.queue_rows.specs.Dequeueing.{retries_of, shown_in};
 ghost use Rattle.queue_rows.specs.declared.session.Pending.TheVariants.{Remove};
 ghost use Rattle.dequeue_ops.specs.Asked.{Does, IsFreeToGive, giving};
 ghost use Rattle.dequeue_ops.specs.Given.{IsReply, MayCommit, mark_of, showing};
 
+use crate::reply::{retries_of, shown_in};
 use crate::request::Asked;
 use exception_queues::MessageTables;
 use message_groups::group_of;
 use payload_records::{Copied, List};
-use queue_rows::{Change, Mode, MsgId, MsgRow, Pending, Reply, Shown, TableRow, Visibility};
+use queue_rows::{Change, Mode, MsgId, MsgRow, Pending, Reply, Visibility};
 use sessions::{Effect, PositionMove, changes_of};
 use slot_marks::Mark;
 use std::alloc::{AllocError, Global};
 
 // ---- the reply
-
-fn retries_of(message: &MsgRow, slot: u32) -> u64
-    ensures { result ≡ retries_of message.now slot }
-{
-    match message.slot(u64::from(slot)) {
-        Some(slot) => slot.retries,
-        None => 0,
-    }
-}
-
-fn shown_in(mode: Mode, table: &TableRow, message: &MsgRow) -> Result<Option<Shown>, AllocError>
-    ensures { IfOk result (λ shown. shown ≡ shown_in mode table.now message.now) }
-{
-    match mode {
-        Mode::RemoveNodata => Ok(None),
-        Mode::Remove | Mode::Browse | Mode::Locked => Ok(Some(Shown {
-            kind: table.fields.copied()?,
-            cells: message.facts.cells.copied()?,
-        })),
-    }
-}
 
 fn message_reply(asked: &Asked<'_>, message: &MsgRow, slot: u32) -> Result<Reply, AllocError>
     ensures { IfOk result (IsReply asked.now message.now slot) }

@@ -8,7 +8,8 @@ use payload_records::{Copied, Name};
 use queue_rows::{Mode, MsgId, MsgRow, Position, Reply, Shown, TableRow};
 use std::alloc::AllocError;
 
-fn retries_of(message: &MsgRow, slot: u32) -> u64
+/// How often a removal of that slot was rolled back; 0 where the message has none.
+pub(crate) fn retries_of(message: &MsgRow, slot: u32) -> u64
     ensures { result ≡ retries_of message.now slot }
 {
     match message.slot(u64::from(slot)) {
@@ -17,7 +18,12 @@ fn retries_of(message: &MsgRow, slot: u32) -> u64
     }
 }
 
-fn shown_in(mode: Mode, table: &TableRow, message: &MsgRow) -> Result<Option<Shown>, AllocError>
+/// The payload that a dequeue of that mode shows, with its type.
+pub(crate) fn shown_in(
+    mode: Mode,
+    table: &TableRow,
+    message: &MsgRow,
+) -> Result<Option<Shown>, AllocError>
     ensures { IfOk result (λ shown. shown ≡ shown_in mode table.now message.now) }
 {
     match mode {

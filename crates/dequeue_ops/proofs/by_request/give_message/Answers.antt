@@ -1,4 +1,4 @@
-use Rattle.std.proofs.Common.{◌≡◌, ◌∙◌, Some, ap, subst}
+use Rattle.std.proofs.Common.{◌∙◌, Some, ap, subst}
 use Rattle.std.proofs.lemmas.Result.{IfOk-weaker}
 use Rattle.slot_marks.specs.Marks.{IsFreeFor}
 use Rattle.queue_rows.specs.Groups.{group_of}
