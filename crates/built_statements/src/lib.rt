@@ -1,4 +1,2 @@
-//! What a script may ask so far, as a definition: the reader of scripts refuses all else, and the world never meets it.
-//!
-//! It shrinks as statements are built, and goes with the last of them.
+//! That the tables which scripts create have their fields in order, as a definition.
 #![tactic(auto)]

@@ -1,5 +1,9 @@
 pub mod Cuts
 pub mod Front
 pub mod Growth
+pub mod Ids
+pub mod Items
+pub mod Limits
 pub mod Lines
 pub mod Steps
+pub mod Tests

@@ -1,17 +1,17 @@
 -- What one line says.
-use Rattle.std.specs.Prelude.{ℕ, ◌||◌, ◌==◌, nat_le, List, length, codes, Bool, Option, Some, None, is_some, option_map, option_and_then, if◌then◌else◌}
+use Rattle.std.specs.Prelude.{ℕ, ◌||◌, ◌==◌, nat_le, List, length, codes, Bool, Option, Some, None, is_some, option_and_then, if◌then◌else◌}
 use Rattle.std.specs.List.{list_all}
 use Rattle.std.specs.Str.{is_utf8}
 use Rattle.serde_json.specs.Data.{Data}
 use Rattle.serde_json.specs.Find.{get}
 use Rattle.serde_json.specs.Read.{read}
 use Rattle.aq_base.specs.declared.limits.TheConstants.{LINE_LIMIT}
-use Rattle.built_statements.specs.Built.{IsBuilt}
 use Rattle.script_text.specs.declared.form.Form.TheVariants.{Declaration}
 use Rattle.script_text.specs.declared.line.Line.{Line}
 use Rattle.script_text.specs.declared.line.Line.TheVariants as lines
 use Rattle.script_text.specs.Form.{has_form}
-use Rattle.script_text.specs.Member.{name_at, session_at, place_at}
+use Rattle.script_text.specs.Member.{◌>>=◌, name_at}
+use Rattle.script_text.specs.Parts.{session_at, place_at}
 use Rattle.script_text.specs.Statement.{statement}
 
 -- the JSON value that a line is
@@ -23,10 +23,16 @@ abbrev pub is_blank : ℕ → Bool
 is_blank byte = byte == 32 || byte == 9 || byte == 13
 
 unfoldable pub declaration : Data → Option Line
-declaration d = option_and_then (λ name. option_map (λ at. lines.Declared name at) (place_at d)) (session_at d)
+declaration d = do
+  name ← session_at d
+  at ← place_at d
+  Some (lines.Declared name at)
 
 unfoldable pub asking : Data → Option Line
-asking d = option_and_then (λ session. option_map (λ asked. lines.Asked session asked) (statement d)) (name_at (codes "s") d)
+asking d = do
+  session ← name_at (codes "s") d
+  asked ← statement d
+  Some (lines.Asked session asked)
 
 -- a line with a member for a session's name declares it, and any other one has a session ask a statement
 unfoldable pub line_from : Data → Option Line
@@ -39,9 +45,3 @@ unfoldable pub line_of : List ℕ → Option Line
 line_of line = if nat_le (length line) LINE_LIMIT
     then (if list_all is_blank line then Some lines.Blank else option_and_then line_from (json_of line))
     else None
-
--- what a line asks has a meaning so far
-abbrev pub IsBuiltLine : Line → Type 0
-IsBuiltLine lines.Blank = Unit {0}
-IsBuiltLine (lines.Declared name at) = Unit {0}
-IsBuiltLine (lines.Asked session asked) = IsBuilt asked

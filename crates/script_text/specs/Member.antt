@@ -1,28 +1,20 @@
--- The members of a line, each with what it may hold.
-use Rattle.std.specs.Prelude.{ℕ, ◌||◌, nat_le, ℤ, pos, negsuc, List, length, codes, Bool, Option, Some, None, is_some, option_map, option_and_then, if◌then◌else◌}
-use Rattle.std.specs.Str.{bytes_eq}
-use Rattle.serde_json.specs.Data.{Data}
-use Rattle.serde_json.specs.Find.{get, as_str, as_null, as_number, as_i64}
-use Rattle.aq_base.specs.declared.DbId.{DbId}
-use Rattle.aq_base.specs.declared.DbId.TheVariants.{Home, Away}
+-- The members of an object: which are given, and what a value says as a name, a number, a word or a text.
+use Rattle.std.specs.Prelude.{ℕ, ◌+◌, ◌&&◌, ◌==◌, nat_le, ℤ, pos, negsuc, List, [], ◌∷◌, length, codes, Bool, Option, Some, None, is_some, option_map, option_and_then, if◌then◌else◌}
+use Rattle.serde_json.specs.Data.{Data, Items, no_items, item}
+use Rattle.serde_json.specs.Find.{get, as_str, as_null, as_number, as_bool, as_i64, as_array}
 use Rattle.payload_records.specs.Name.{is_name}
-use Rattle.payload_records.specs.Kind.{record_type}
-use Rattle.payload_records.specs.Payload.{payload_of}
-use Rattle.payload_records.specs.declared.kind.Field.{Field}
-use Rattle.payload_records.specs.declared.payload.Payload.{Payload}
-use Rattle.queue_rows.specs.declared.statement.Mode.{Mode}
-use Rattle.queue_rows.specs.declared.statement.Mode.TheVariants as modes
-use Rattle.queue_rows.specs.declared.statement.Navigation.{Navigation}
-use Rattle.queue_rows.specs.declared.statement.Navigation.TheVariants as navigations
-use Rattle.queue_rows.specs.declared.statement.Visibility.{Visibility}
-use Rattle.queue_rows.specs.declared.statement.Visibility.TheVariants.{OnCommit, Immediate}
-use Rattle.aq_base.specs.declared.limits.TheConstants.{TABLE_NAME_LIMIT, MAX_RETRIES_LIMIT}
+use Rattle.aq_base.specs.declared.limits.TheConstants.{TABLE_NAME_LIMIT}
+use Rattle.queue_rows.specs.Within.{is_priority}
+
+-- what a first reading gives goes on to a second one
+infixl 10 ◌>>=◌
+abbrev pub ◌>>=◌ : {A B : Type 0} → Option A → (A → Option B) → Option B
+found >>= next = option_and_then next found
+
+-- ---- which members are given
 
 abbrev pub text_at : List ℕ → Data → Option (List ℕ)
 text_at key d = option_and_then as_str (get key d)
-
-abbrev pub as_name : List ℕ → Option (List ℕ)
-as_name text = if is_name text then Some text else None
 
 -- a member that may be left out is as absent where it is null
 abbrev pub given_at : List ℕ → Data → Option Data
@@ -33,16 +25,43 @@ abbrev pub or_default : {A : Type 0} → A → (Data → Option A) → Option Da
 or_default meant read None = Some meant
 or_default meant read (Some d) = read d
 
-abbrev pub up_to : ℕ → ℤ → Option ℕ
-up_to most (pos n) = if nat_le n most then Some n else None
-up_to most (negsuc n) = None
+-- the same of a member that means nothing where it is not given
+abbrev pub if_given : {A : Type 0} → (Data → Option A) → Option Data → Option (Option A)
+if_given read None = Some None
+if_given read (Some d) = option_map (λ said. Some said) (read d)
 
--- a whole number from 0 on
-abbrev pub number_up_to : ℕ → Data → Option ℕ
-number_up_to most d = option_and_then (up_to most) (option_and_then as_i64 (as_number d))
+-- ---- lists
+
+-- what each item of a list says, or none where one says nothing
+abbrev pub each_item : {A : Type 0} → (Data → Option A) → Items → Option (List A)
+each_item read no_items = Some []
+each_item read (item d ds) = option_and_then (λ said. option_map (λ others. said ∷ others) (each_item read ds)) (read d)
+
+abbrev pub item_count : Items → ℕ
+item_count no_items = 0
+item_count (item d ds) = item_count ds + 1
+
+abbrev pub items_between : ℕ → ℕ → Items → Option Items
+items_between least most ds = if nat_le least (item_count ds) && nat_le (item_count ds) most then Some ds else None
+
+-- a list of at least so many items, and at most so many
+abbrev pub list_between : ℕ → ℕ → Data → Option Items
+list_between least most d = option_and_then (items_between least most) (as_array d)
+
+-- ---- names
+
+abbrev pub as_name : List ℕ → Option (List ℕ)
+as_name text = if is_name text then Some text else None
+
+abbrev pub name_in : Data → Option (List ℕ)
+name_in d = option_and_then as_name (as_str d)
 
 abbrev pub name_at : List ℕ → Data → Option (List ℕ)
-name_at key d = option_and_then as_name (text_at key d)
+name_at key d = option_and_then name_in (get key d)
+
+-- a name that may be left out
+abbrev pub name_if_given : List ℕ → Data → Option (Option (List ℕ))
+name_if_given key d = if_given name_in (given_at key d)
 
 -- the name of a table is shorter than other names
 abbrev pub as_table : List ℕ → Option (List ℕ)
@@ -51,73 +70,42 @@ as_table name = if nat_le (length name) TABLE_NAME_LIMIT then Some name else Non
 abbrev pub table_at : Data → Option (List ℕ)
 table_at d = option_and_then as_table (name_at (codes "table") d)
 
-abbrev pub fields_at : Data → Option (List Field)
-fields_at d = option_and_then record_type (get (codes "fields") d)
+-- ---- numbers
 
--- ---- declarations
+abbrev pub between : ℕ → ℕ → ℤ → Option ℕ
+between least most (pos n) = if nat_le least n && nat_le n most then Some n else None
+between least most (negsuc n) = None
 
--- transcripts say what was done on the side under these names
-abbrev pub is_reserved : List ℕ → Bool
-is_reserved name =
-    bytes_eq name (codes "timer") || bytes_eq name (codes "offer") || bytes_eq name (codes "arrive")
-    || bytes_eq name (codes "confirm")
+-- a whole number from the one to the other
+abbrev pub number_between : ℕ → ℕ → Data → Option ℕ
+number_between least most d = option_and_then (between least most) (option_and_then as_i64 (as_number d))
 
-abbrev pub as_session : List ℕ → Option (List ℕ)
-as_session name = if is_reserved name then None else Some name
+abbrev pub as_priority : ℤ → Option ℤ
+as_priority z = if is_priority z then Some z else None
 
-abbrev pub session_at : Data → Option (List ℕ)
-session_at d = option_and_then as_session (name_at (codes "session") d)
+-- a whole number of 32 bits with a sign
+abbrev pub priority_in : Data → Option ℤ
+priority_in d = option_and_then as_priority (option_and_then as_i64 (as_number d))
 
-abbrev pub place_of : List ℕ → Option DbId
-place_of text = if bytes_eq text (codes "home") then Some Home else (if bytes_eq text (codes "away") then Some Away else None)
+-- ---- truth values and texts
 
-abbrev pub place_at : Data → Option DbId
-place_at d = option_and_then place_of (text_at (codes "at") d)
+abbrev pub bool_or : Bool → List ℕ → Data → Option Bool
+bool_or meant key d = or_default meant as_bool (given_at key d)
 
--- ---- queues
+abbrev pub bool_if_given : List ℕ → Data → Option (Option Bool)
+bool_if_given key d = if_given as_bool (given_at key d)
 
--- how often a removal may be rolled back where nothing is said
-abbrev pub default_max_retries : ℕ
-default_max_retries = 5
+-- an empty text is as absent
+abbrev pub unless_empty : List ℕ → Option (List ℕ)
+unless_empty text = if length text == 0 then None else Some text
 
-abbrev pub max_retries_at : Data → Option ℕ
-max_retries_at d = or_default default_max_retries (number_up_to MAX_RETRIES_LIMIT) (given_at (codes "max_retries") d)
+abbrev pub up_to : ℕ → List ℕ → Option (List ℕ)
+up_to most text = if nat_le (length text) most then Some text else None
 
--- ---- messages
+-- a text of no more bytes than that, where it is none where it is empty
+abbrev pub text_up_to : ℕ → Data → Option (Option (List ℕ))
+text_up_to most d = option_map unless_empty (option_and_then (up_to most) (as_str d))
 
--- any value at all, null too
-abbrev pub payload_at : Data → Option Payload
-payload_at d = option_map payload_of (get (codes "payload") d)
-
-abbrev pub visibility_of : List ℕ → Option Visibility
-visibility_of text = if bytes_eq text (codes "on_commit") then Some OnCommit
-    else (if bytes_eq text (codes "immediate") then Some Immediate else None)
-
-abbrev pub visibility_in : Data → Option Visibility
-visibility_in d = option_and_then visibility_of (as_str d)
-
-abbrev pub visibility_at : Data → Option Visibility
-visibility_at d = or_default OnCommit visibility_in (given_at (codes "visibility") d)
-
-abbrev pub mode_of : List ℕ → Option Mode
-mode_of text = if bytes_eq text (codes "remove") then Some modes.Remove
-    else (if bytes_eq text (codes "browse") then Some modes.Browse
-    else (if bytes_eq text (codes "locked") then Some modes.Locked
-    else (if bytes_eq text (codes "remove_nodata") then Some modes.RemoveNodata else None)))
-
-abbrev pub mode_in : Data → Option Mode
-mode_in d = option_and_then mode_of (as_str d)
-
-abbrev pub mode_at : Data → Option Mode
-mode_at d = or_default modes.Remove mode_in (given_at (codes "mode") d)
-
--- `next_transaction` has no meaning so far, as there are no groups
-abbrev pub navigation_of : List ℕ → Option Navigation
-navigation_of text = if bytes_eq text (codes "next") then Some navigations.Next
-    else (if bytes_eq text (codes "first") then Some navigations.First else None)
-
-abbrev pub navigation_in : Data → Option Navigation
-navigation_in d = option_and_then navigation_of (as_str d)
-
-abbrev pub navigation_at : Data → Option Navigation
-navigation_at d = or_default navigations.Next navigation_in (given_at (codes "navigation") d)
+-- a text that may be left out
+abbrev pub text_if_given : ℕ → List ℕ → Data → Option (Option (List ℕ))
+text_if_given most key d = or_default None (text_up_to most) (given_at key d)

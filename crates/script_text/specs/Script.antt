@@ -1,11 +1,11 @@
 -- What a script says: the sessions that it declares with the statements that they ask, or its first bad line.
-use Rattle.std.specs.Prelude.{◌≡◌, ◌≤◌, ℕ, ◌+◌, ◌-◌, ◌||◌, ◌==◌, nat_le, position, List, [], ◌∷◌, ◌++◌, length, take, Bool, Option, Some, None, is_some, option_map, option_and_then, Result, Ok, Err, All, if◌then◌else◌}
-use Rattle.std.specs.List.{slice_split, sum_by, count_by}
+use Rattle.std.specs.Prelude.{◌≡◌, ℕ, ◌+◌, ◌-◌, ◌||◌, ◌==◌, nat_le, position, map, List, [], ◌∷◌, ◌++◌, length, take, Bool, Option, Some, None, is_some, option_map, option_and_then, Result, Ok, Err, if◌then◌else◌}
+use Rattle.std.specs.List.{slice_split, count_by}
 use Rattle.std.specs.Str.{bytes_eq}
 use Rattle.aq_base.specs.declared.DbId.{DbId}
 use Rattle.aq_base.specs.declared.limits.TheConstants.{INPUT_LIMIT, SESSION_LIMIT, STATEMENT_LIMIT}
-use Rattle.built_statements.specs.Built.{IsBuiltScript}
 use Rattle.queue_rows.specs.Rows.{changed_nth}
+use Rattle.queue_rows.specs.Within.{statement_count}
 use Rattle.queue_rows.specs.declared.statement.Statement.{Statement}
 use Rattle.queue_rows.specs.declared.history.SessionScript.{SessionScript}
 use Rattle.script_text.specs.declared.fault.ScriptFault.{ScriptFault}
@@ -16,19 +16,16 @@ use Rattle.script_text.specs.Line.{line_of}
 
 -- ---- the sessions so far
 
--- how many statements the sessions ask together
-abbrev pub statement_count : List SessionScript → ℕ
-statement_count sessions = sum_by (λ s. length s.statements) sessions
-
-abbrev pub is_of : List ℕ → SessionScript → Bool
-is_of name s = bytes_eq s.name name
+-- sessions are numbered in the order in which they are declared
+abbrev pub number_of : List ℕ → List SessionScript → Option ℕ
+number_of name sessions = position (bytes_eq name) (map (λ s. s.name) sessions)
 
 abbrev pub new_session : List ℕ → DbId → SessionScript
 new_session name at = record { name = name; at = at; statements = [] }
 
 -- a session of another name goes last, where one more may be declared
 abbrev pub with_session : List ℕ → DbId → List SessionScript → Option (List SessionScript)
-with_session name at sessions = if nat_le SESSION_LIMIT (length sessions) || is_some (position (is_of name) sessions)
+with_session name at sessions = if nat_le SESSION_LIMIT (length sessions) || is_some (number_of name sessions)
     then None
     else Some (sessions ++ new_session name at ∷ [])
 
@@ -43,7 +40,7 @@ with_statement_at statement sessions at = changed_nth (with_statement statement)
 abbrev pub with_statement_of : List ℕ → Statement → List SessionScript → Option (List SessionScript)
 with_statement_of name statement sessions = if nat_le STATEMENT_LIMIT (statement_count sessions)
     then None
-    else option_map (with_statement_at statement sessions) (position (is_of name) sessions)
+    else option_map (with_statement_at statement sessions) (number_of name sessions)
 
 -- ---- line by line
 
@@ -105,13 +102,6 @@ IsFaultOf faults.Memory given = Unit {0}
 -- no byte past the first one that is too many changes what a text says
 abbrev pub NeedsOnlyTheFront : List ℕ → Type 0
 NeedsOnlyTheFront bytes = script (take (INPUT_LIMIT + 1) bytes) ≡ script bytes
-
--- ---- what each script keeps
-
-pub record AreWithinLimits (scripts : List SessionScript) : Type 0 where
-  pub sessions : length scripts ≤ SESSION_LIMIT
-  pub statements : statement_count scripts ≤ STATEMENT_LIMIT
-  pub built : All IsBuiltScript scripts
 
 -- ---- what is left of a text to be read
 

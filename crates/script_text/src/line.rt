@@ -2,11 +2,13 @@
 ghost use Rattle.std.specs.Prelude.{◌≡◌, IfOk, IsErrOf, Some, None};
 ghost use Rattle.std.specs.List.{list_all};
 ghost use Rattle.serde_json.specs.View.{view};
-ghost use Rattle.script_text.specs.Line.{json_of, is_blank, declaration, asking, line_from, line_of, IsBuiltLine};
+ghost use Rattle.script_text.specs.Line.{json_of, is_blank, declaration, asking, line_from, line_of};
+ghost use Rattle.script_text.specs.Readable.{IsReadableLine};
 
 use crate::fault::LineFault;
 use crate::form::{Form, has_form};
-use crate::member::{name_at, place_at, session_at};
+use crate::member::name_at;
+use crate::parts::{place_at, session_at};
 use crate::statement::statement_at;
 use aq_base::{DbId, LINE_LIMIT};
 use payload_records::Name;
@@ -57,7 +59,7 @@ fn json(alloc: Global, line: &[u8]) -> Result<Value, LineFault>
 #[tactic(auto, unfolding(crate::specs::Line::declaration))]
 fn declaration(alloc: Global, value: &Value) -> Result<Line, LineFault>
     ensures ok { IfOk result (λ l. declaration (view value.now) ≡ Some l) }
-    ensures built { IfOk result IsBuiltLine }
+    ensures readable { IfOk result IsReadableLine }
     ensures bad { IsErrOf result LineFault.Bad → declaration (view value.now) ≡ None }
 {
     let name = session_at(alloc, value)?;
@@ -70,7 +72,7 @@ fn declaration(alloc: Global, value: &Value) -> Result<Line, LineFault>
 #[tactic(auto, unfolding(crate::specs::Line::asking))]
 fn asking(alloc: Global, value: &Value) -> Result<Line, LineFault>
     ensures ok { IfOk result (λ l. asking (view value.now) ≡ Some l) }
-    ensures built { IfOk result IsBuiltLine }
+    ensures readable { IfOk result IsReadableLine }
     ensures bad { IsErrOf result LineFault.Bad → asking (view value.now) ≡ None }
 {
     let session = name_at(alloc, value, "s")?;
@@ -81,7 +83,7 @@ fn asking(alloc: Global, value: &Value) -> Result<Line, LineFault>
 #[tactic(auto, unfolding(crate::specs::Line::line_from))]
 fn line_from(alloc: Global, value: &Value) -> Result<Line, LineFault>
     ensures ok { IfOk result (λ l. line_from (view value.now) ≡ Some l) }
-    ensures built { IfOk result IsBuiltLine }
+    ensures readable { IfOk result IsReadableLine }
     ensures bad { IsErrOf result LineFault.Bad → line_from (view value.now) ≡ None }
 {
     if value.get("session").is_none() {
@@ -104,7 +106,7 @@ fn is_all_blank(line: &[u8]) -> bool
 #[tactic(auto, unfolding(crate::specs::Line::line_of))]
 pub fn read_line(alloc: Global, line: &[u8]) -> Result<Line, LineFault>
     ensures ok { IfOk result (λ l. line_of line.now ≡ Some l) }
-    ensures built { IfOk result IsBuiltLine }
+    ensures readable { IfOk result IsReadableLine }
     ensures bad { IsErrOf result LineFault.Bad → line_of line.now ≡ None }
 {
     if line.len() > LINE_LIMIT {

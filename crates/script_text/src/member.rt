@@ -1,18 +1,15 @@
-// The members of a line, each with what it may hold.
-ghost use Rattle.std.specs.Prelude.{◌≡◌, IfOk, IfSome, IsErrOf, Some, None, false, option_map};
-ghost use Rattle.serde_json.specs.View.{view};
-ghost use Rattle.queue_rows.specs.Dequeueing.{is_by_transaction};
-ghost use Rattle.script_text.specs.Member.{text_at, given_at, number_up_to, name_at, table_at, fields_at, session_at, is_reserved, place_of, place_at, max_retries_at, payload_at, visibility_of, visibility_at, mode_of, mode_at, navigation_of, navigation_at};
+// The members of an object: which are given, and what a value says as a name, a number, a truth value or a text.
+ghost use Rattle.std.specs.Prelude.{◌≡◌, IfOk, IfSome, IsErrOf, Some, None, length, nat_le, option_map, true};
+ghost use Rattle.serde_json.specs.View.{view, items_view};
+ghost use Rattle.payload_records.specs.Name.{is_name};
+ghost use Rattle.queue_rows.specs.Within.{if_some, is_table_name, is_text, is_priority};
+ghost use Rattle.script_text.specs.Member.{text_at, given_at, list_between, name_in, name_at, name_if_given, table_at, number_between, priority_in, bool_or, bool_if_given, text_up_to, text_if_given};
 
 use crate::fault::LineFault;
-use aq_base::{DbId, MAX_RETRIES_LIMIT, TABLE_NAME_LIMIT};
-use payload_records::{Name, NameFault, Payload, RecordType, TypeFault};
-use queue_rows::{Mode, Navigation, Visibility};
+use aq_base::TABLE_NAME_LIMIT;
+use payload_records::{Name, NameFault, Text};
 use serde_json::Value;
 use std::alloc::Global;
-
-/// How often a removal may be rolled back where nothing is said.
-const DEFAULT_MAX_RETRIES: u64 = 5;
 
 /// The text of a member.
 pub fn text_at<'v>(value: &'v Value, key: &str) -> Option<&'v str>
@@ -22,27 +19,36 @@ pub fn text_at<'v>(value: &'v Value, key: &str) -> Option<&'v str>
 }
 
 /// A member that may be left out, where it is given; one that is null is not.
-fn given_at<'v>(value: &'v Value, key: &str) -> Option<&'v Value>
+pub fn given_at<'v>(value: &'v Value, key: &str) -> Option<&'v Value>
     ensures { option_map (λ member. view member.now) result ≡ given_at key.now (view value.now) }
 {
     let member = value.get(key)?;
     if member.is_null() { None } else { Some(member) }
 }
 
-/// A whole number from 0 to the most that it may be.
-fn number_up_to(most: u64, value: &Value) -> Option<u64>
-    ensures { result ≡ number_up_to most (view value.now) }
+/// The items of a list, of which there are at least so many, and at most so many.
+#[tactic(auto, using(crate::proofs::Items::count_items))]
+pub fn list_between(least: usize, most: usize, value: &Value) -> Option<&[Value]>
+    ensures items { option_map (λ items. items_view items.now) result
+        ≡ list_between least most (view value.now) }
+    ensures least { IfSome result (λ items. nat_le least (length items.now) ≡ true) }
+    ensures most { IfSome result (λ items. nat_le (length items.now) most ≡ true) }
 {
-    let number = u64::try_from(value.as_i64()?).ok()?;
-    if number > most { None } else { Some(number) }
+    let items = value.as_array()?;
+    if least <= items.len() && items.len() <= most {
+        Some(items)
+    } else {
+        None
+    }
 }
 
-/// The name of a member.
-pub fn name_at(alloc: Global, value: &Value, key: &str) -> Result<Name, LineFault>
-    ensures ok { IfOk result (λ name. name_at key.now (view value.now) ≡ Some name) }
-    ensures bad { IsErrOf result LineFault.Bad → name_at key.now (view value.now) ≡ None }
+/// The name that a value is.
+pub fn name_in(alloc: Global, value: &Value) -> Result<Name, LineFault>
+    ensures ok { IfOk result (λ name. name_in (view value.now) ≡ Some name) }
+    ensures named { IfOk result (λ name. is_name name ≡ true) }
+    ensures bad { IsErrOf result LineFault.Bad → name_in (view value.now) ≡ None }
 {
-    let Some(text) = text_at(value, key) else {
+    let Some(text) = value.as_str() else {
         return Err(LineFault::Bad);
     };
     match Name::read(alloc, text) {
@@ -52,9 +58,34 @@ pub fn name_at(alloc: Global, value: &Value, key: &str) -> Result<Name, LineFaul
     }
 }
 
+/// The name of a member.
+pub fn name_at(alloc: Global, value: &Value, key: &str) -> Result<Name, LineFault>
+    ensures ok { IfOk result (λ name. name_at key.now (view value.now) ≡ Some name) }
+    ensures named { IfOk result (λ name. is_name name ≡ true) }
+    ensures bad { IsErrOf result LineFault.Bad → name_at key.now (view value.now) ≡ None }
+{
+    match value.get(key) {
+        Some(member) => name_in(alloc, member),
+        None => Err(LineFault::Bad),
+    }
+}
+
+/// The name of a member that may be left out.
+pub fn name_if_given(alloc: Global, value: &Value, key: &str) -> Result<Option<Name>, LineFault>
+    ensures ok { IfOk result (λ name. name_if_given key.now (view value.now) ≡ Some name) }
+    ensures named { IfOk result (λ name. if_some is_name name ≡ true) }
+    ensures bad { IsErrOf result LineFault.Bad → name_if_given key.now (view value.now) ≡ None }
+{
+    match given_at(value, key) {
+        Some(member) => Ok(Some(name_in(alloc, member)?)),
+        None => Ok(None),
+    }
+}
+
 /// The name of a table, which leaves room for what is put behind it.
 pub fn table_at(alloc: Global, value: &Value) -> Result<Name, LineFault>
     ensures ok { IfOk result (λ name. table_at (view value.now) ≡ Some name) }
+    ensures named { IfOk result (λ name. is_table_name name ≡ true) }
     ensures bad { IsErrOf result LineFault.Bad → table_at (view value.now) ≡ None }
 {
     let name = name_at(alloc, value, "table")?;
@@ -64,147 +95,85 @@ pub fn table_at(alloc: Global, value: &Value) -> Result<Name, LineFault>
     Ok(name)
 }
 
-/// The record type that the member for the fields is.
-pub fn fields_at(alloc: Global, value: &Value) -> Result<RecordType, LineFault>
-    ensures ok { IfOk result (λ fields. fields_at (view value.now) ≡ Some fields) }
-    ensures bad { IsErrOf result LineFault.Bad → fields_at (view value.now) ≡ None }
+/// The whole number that a value is, from the least to the most that it may be.
+pub fn number_between(least: u64, most: u64, value: &Value) -> Option<u64>
+    ensures number { result ≡ number_between least most (view value.now) }
+    ensures least { IfSome result (λ n. nat_le least n ≡ true) }
+    ensures most { IfSome result (λ n. nat_le n most ≡ true) }
 {
-    let Some(fields) = value.get("fields") else {
+    let number = u64::try_from(value.as_i64()?).ok()?;
+    if least <= number && number <= most {
+        Some(number)
+    } else {
+        None
+    }
+}
+
+/// The whole number of 32 bits with a sign that a value is.
+pub fn priority_in(value: &Value) -> Option<i64>
+    ensures number { result ≡ priority_in (view value.now) }
+    ensures within { IfSome result (λ n. is_priority n ≡ true) }
+{
+    let number = value.as_i64()?;
+    if number >= i32::MIN as i64 && number <= i32::MAX as i64 {
+        Some(number)
+    } else {
+        None
+    }
+}
+
+/// The truth value of a member, and the one that is meant where it is not given.
+pub fn bool_or(meant: bool, value: &Value, key: &str) -> Result<bool, LineFault>
+    ensures ok { IfOk result (λ said. bool_or meant key.now (view value.now) ≡ Some said) }
+    ensures bad { IsErrOf result LineFault.Bad → bool_or meant key.now (view value.now) ≡ None }
+{
+    match given_at(value, key) {
+        Some(member) => member.as_bool().ok_or(LineFault::Bad),
+        None => Ok(meant),
+    }
+}
+
+/// The truth value of a member, where it is given.
+pub fn bool_if_given(value: &Value, key: &str) -> Result<Option<bool>, LineFault>
+    ensures ok { IfOk result (λ said. bool_if_given key.now (view value.now) ≡ Some said) }
+    ensures bad { IsErrOf result LineFault.Bad → bool_if_given key.now (view value.now) ≡ None }
+{
+    match given_at(value, key) {
+        Some(member) => Ok(Some(member.as_bool().ok_or(LineFault::Bad)?)),
+        None => Ok(None),
+    }
+}
+
+fn text_up_to(alloc: Global, most: usize, value: &Value) -> Result<Option<Text>, LineFault>
+    ensures ok { IfOk result (λ text. text_up_to most (view value.now) ≡ Some text) }
+    ensures within { IfOk result (λ text. if_some (is_text most) text ≡ true) }
+    ensures bad { IsErrOf result LineFault.Bad → text_up_to most (view value.now) ≡ None }
+{
+    let Some(text) = value.as_str() else {
         return Err(LineFault::Bad);
     };
-    match RecordType::read(alloc, fields) {
-        Ok(fields) => Ok(fields),
-        Err(TypeFault::Bad) => Err(LineFault::Bad),
-        Err(TypeFault::Memory) => Err(LineFault::Memory),
-    }
-}
-
-fn is_reserved(name: &str) -> bool
-    ensures { result ≡ is_reserved name.now }
-{
-    name == "timer" || name == "offer" || name == "arrive" || name == "confirm"
-}
-
-/// The name of a session that is declared, none of those that transcripts use otherwise.
-pub fn session_at(alloc: Global, value: &Value) -> Result<Name, LineFault>
-    ensures ok { IfOk result (λ name. session_at (view value.now) ≡ Some name) }
-    ensures bad { IsErrOf result LineFault.Bad → session_at (view value.now) ≡ None }
-{
-    let name = name_at(alloc, value, "session")?;
-    if is_reserved(name.as_str()) {
+    if text.len() > most {
         return Err(LineFault::Bad);
     }
-    Ok(name)
-}
-
-fn place_of(text: &str) -> Option<DbId>
-    ensures { result ≡ place_of text.now }
-{
-    if text == "home" {
-        Some(DbId::Home)
-    } else if text == "away" {
-        Some(DbId::Away)
-    } else {
-        None
+    if text.is_empty() {
+        return Ok(None);
     }
+    Ok(Some(Text::of(alloc, text)?))
 }
 
-/// The database of a session that is declared.
-pub fn place_at(value: &Value) -> Option<DbId>
-    ensures { result ≡ place_at (view value.now) }
+/// A text of no more bytes than that, where it is given and not empty.
+pub fn text_if_given(
+    alloc: Global,
+    most: usize,
+    value: &Value,
+    key: &str,
+) -> Result<Option<Text>, LineFault>
+    ensures ok { IfOk result (λ text. text_if_given most key.now (view value.now) ≡ Some text) }
+    ensures within { IfOk result (λ text. if_some (is_text most) text ≡ true) }
+    ensures bad { IsErrOf result LineFault.Bad → text_if_given most key.now (view value.now) ≡ None }
 {
-    place_of(text_at(value, "at")?)
-}
-
-/// How often a removal from a queue may be rolled back.
-pub fn max_retries_at(value: &Value) -> Option<u64>
-    ensures { result ≡ max_retries_at (view value.now) }
-{
-    match given_at(value, "max_retries") {
-        Some(member) => number_up_to(MAX_RETRIES_LIMIT, member),
-        None => Some(DEFAULT_MAX_RETRIES),
-    }
-}
-
-/// The payload that an enqueue gives.
-pub fn payload_at(alloc: Global, value: &Value) -> Result<Payload, LineFault>
-    ensures ok { IfOk result (λ payload. payload_at (view value.now) ≡ Some payload) }
-    ensures bad { IsErrOf result LineFault.Bad → payload_at (view value.now) ≡ None }
-{
-    let Some(payload) = value.get("payload") else {
-        return Err(LineFault::Bad);
-    };
-    Ok(Payload::of(alloc, payload)?)
-}
-
-fn visibility_of(text: &str) -> Option<Visibility>
-    ensures { result ≡ visibility_of text.now }
-{
-    if text == "on_commit" {
-        Some(Visibility::OnCommit)
-    } else if text == "immediate" {
-        Some(Visibility::Immediate)
-    } else {
-        None
-    }
-}
-
-/// When what a statement does is to be seen by others.
-pub fn visibility_at(value: &Value) -> Option<Visibility>
-    ensures { result ≡ visibility_at (view value.now) }
-{
-    match given_at(value, "visibility") {
-        Some(member) => visibility_of(member.as_str()?),
-        None => Some(Visibility::OnCommit),
-    }
-}
-
-fn mode_of(text: &str) -> Option<Mode>
-    ensures { result ≡ mode_of text.now }
-{
-    if text == "remove" {
-        Some(Mode::Remove)
-    } else if text == "browse" {
-        Some(Mode::Browse)
-    } else if text == "locked" {
-        Some(Mode::Locked)
-    } else if text == "remove_nodata" {
-        Some(Mode::RemoveNodata)
-    } else {
-        None
-    }
-}
-
-/// What is to become of a message that a dequeue gives.
-pub fn mode_at(value: &Value) -> Option<Mode>
-    ensures { result ≡ mode_at (view value.now) }
-{
-    match given_at(value, "mode") {
-        Some(member) => mode_of(member.as_str()?),
-        None => Some(Mode::Remove),
-    }
-}
-
-fn navigation_of(text: &str) -> Option<Navigation>
-    ensures navigation { result ≡ navigation_of text.now }
-    ensures built { IfSome result (λ navigation. is_by_transaction navigation ≡ false) }
-{
-    if text == "next" {
-        Some(Navigation::Next)
-    } else if text == "first" {
-        Some(Navigation::First)
-    } else {
-        None
-    }
-}
-
-/// Where a dequeue is to look for its message.
-pub fn navigation_at(value: &Value) -> Option<Navigation>
-    ensures navigation { result ≡ navigation_at (view value.now) }
-    ensures built { IfSome result (λ navigation. is_by_transaction navigation ≡ false) }
-{
-    match given_at(value, "navigation") {
-        Some(member) => navigation_of(member.as_str()?),
-        None => Some(Navigation::Next),
+    match given_at(value, key) {
+        Some(member) => text_up_to(alloc, most, member),
+        None => Ok(None),
     }
 }

@@ -1,8 +1,8 @@
 // A whole script.
-ghost use Rattle.std.specs.Prelude.{◌≡◌, ◌≤◌, ◌<◌, ◌+◌, [], ◌∷◌, IfOk, IfErr, IfSome, IfNone, Ok, true, length, position, option_map, All};
-ghost use Rattle.built_statements.specs.Built.{IsShortScript};
+ghost use Rattle.std.specs.Prelude.{◌≡◌, ◌≤◌, ◌<◌, ◌+◌, [], ◌∷◌, IfOk, IfErr, IfSome, IfNone, Ok, true, length, position, option_map};
 ghost use Rattle.script_text.specs.Script.{is_line_feed, lines_of, lines_in, lines_left, room_of, with_lines, past_limit, script, line_feeds};
-ghost use Rattle.script_text.specs.Script.{IsFaultOf, AreWithinLimits};
+ghost use Rattle.script_text.specs.Script.{IsFaultOf};
+ghost use Rattle.script_text.specs.Readable.{AreReadable};
 ghost use Rattle.aq_base.specs.declared.limits.TheConstants.{INPUT_LIMIT};
 
 use crate::fault::{LineFault, ScriptFault};
@@ -95,8 +95,7 @@ fn past_limit(alloc: Global, front: &[u8]) -> ScriptFault
 pub fn read(alloc: Global, bytes: &[u8]) -> Result<List<SessionScript>, ScriptFault>
     ensures ok { IfOk result (λ sessions. script bytes.now ≡ Ok sessions) }
     ensures bad { IfErr result (λ fault. IsFaultOf fault (script bytes.now)) }
-    ensures within { IfOk result AreWithinLimits }
-    ensures short { IfOk result (λ sessions. All IsShortScript sessions) }
+    ensures readable { IfOk result AreReadable }
 {
     if bytes.len() > INPUT_LIMIT {
         return Err(past_limit(alloc, &bytes[..INPUT_LIMIT]));

@@ -1,45 +1,42 @@
 // The sessions of a script, as its lines make them one after the other.
-ghost use Rattle.std.specs.Prelude.{◌≡◌, ◌≤◌, ◌<◌, [], position, length, slice_get, slice_set, IfSome, OnOk, OnErr, IsErrOf, Some, None, All};
-ghost use Rattle.built_statements.specs.Built.{IsBuilt, IsShortScript};
-ghost use Rattle.script_text.specs.Line.{IsBuiltLine};
-ghost use Rattle.script_text.specs.Script.{is_of, with_session, with_statement, with_statement_at, with_statement_of, with_line, with_bytes, AreWithinLimits};
+ghost use Rattle.std.specs.Prelude.{◌≡◌, ◌≤◌, ◌<◌, [], true, is_some, map, length, slice_get, slice_set, IfSome, OnOk, OnErr, IsErrOf, Some, None};
+ghost use Rattle.std.specs.List.{list_any};
+ghost use Rattle.std.specs.Str.{bytes_eq};
+ghost use Rattle.queue_rows.specs.Within.{is_session_name};
+ghost use Rattle.script_text.specs.Readable.{IsReadable, IsReadableLine, AreReadable};
+ghost use Rattle.script_text.specs.Script.{number_of, with_session, with_statement, with_statement_at, with_statement_of, with_line, with_bytes};
 
 use crate::fault::LineFault;
 use crate::line::{Line, read_line};
 use aq_base::{DbId, SESSION_LIMIT, STATEMENT_LIMIT};
-use payload_records::{List, Name};
+use indexmap::IndexSet;
+use payload_records::{Copied, List, Name};
 use queue_rows::{SessionScript, Statement};
 use std::alloc::{AllocError, Global};
 use std::marker::Model;
 
-/// The sessions that were declared so far, each with what it asks, how many statements that is together, and the most lines
-/// that are to come.
+/// The sessions that were declared so far, each with what it asks, their names with the same numbers, how many statements
+/// they ask together, and the most lines that are to come.
 #[derive(Drop)]
 pub struct Sessions {
+    names: IndexSet<Name>,
     list: Vec<SessionScript>,
     asked: usize,
     lines: usize,
 }
 
 impl Model for Sessions {
-    ghost use Rattle.std.specs.Prelude.{◌≡◌, List as Sequence};
+    ghost use Rattle.std.specs.Prelude.{◌≡◌, List as Sequence, map};
+    ghost use Rattle.queue_rows.specs.Within.{statement_count};
     ghost use Rattle.queue_rows.specs.declared.history.SessionScript.{SessionScript};
-    ghost use Rattle.script_text.specs.Script.{statement_count, AreWithinLimits};
+    ghost use Rattle.script_text.specs.Readable.{AreReadable};
 
     ghost Value = { Sequence SessionScript };
 
     ghost view = { λ s. s.list.items };
 
-    ghost invariant = { λ s. (s.asked ≡ statement_count s.list.items) × AreWithinLimits s.list.items };
-}
-
-fn index_of(sessions: &[SessionScript], name: &Name) -> Option<usize>
-    ensures index { result ≡ position (is_of name.now) sessions.now }
-    ensures within { IfSome result (λ at. at < length sessions.now) }
-{
-    sessions
-        .iter()
-        .position(|session| session.name.as_str() == name.as_str())
+    ghost invariant = { λ s. (s.names.keys ≡ map (λ script. script.name) s.list.items)
+        × (s.asked ≡ statement_count s.list.items) × AreReadable s.list.items };
 }
 
 fn push_statement(session: &mut SessionScript, statement: Statement) -> Result<(), AllocError>
@@ -85,6 +82,7 @@ impl Sessions {
         ensures { result ≡ [] }
     {
         Sessions {
+            names: IndexSet::new(alloc),
             list: Vec::new(alloc),
             asked: 0,
             lines,
@@ -101,14 +99,26 @@ impl Sessions {
         }
     }
 
+    fn number_of(&self, name: &Name) -> Option<usize>
+        ensures number { result ≡ number_of name.now self.now }
+        ensures new { is_some result ≡ list_any (bytes_eq name.now) (map (λ s. s.name) self.now) }
+        ensures within { IfSome result (λ at. at < length self.now) }
+    {
+        self.names.get_index_of(name)
+    }
+
     fn declare(&mut self, name: Name, at: DbId) -> Result<(), LineFault>
+        requires { is_session_name name ≡ true }
         ensures ok { OnOk result (with_session name at self.old ≡ Some self.new) }
         ensures bad { IsErrOf result LineFault.Bad → with_session name at self.old ≡ None }
     {
-        if self.list.len() >= SESSION_LIMIT || index_of(&self.list, &name).is_some() {
+        if self.list.len() >= SESSION_LIMIT || self.number_of(&name).is_some() {
             return Err(LineFault::Bad);
         }
         let statements = List::new(*self.list.allocator());
+        let key = name.copied()?;
+        self.list.reserve(1)?;
+        self.names.insert(key)?;
         self.list.push(SessionScript {
             name,
             at,
@@ -118,14 +128,15 @@ impl Sessions {
     }
 
     fn ask(&mut self, name: &Name, statement: Statement) -> Result<(), LineFault>
-        requires { IsBuilt statement }
+        requires { IsReadable statement }
         ensures ok { OnOk result (with_statement_of name.now statement self.old ≡ Some self.new) }
-        ensures bad { IsErrOf result LineFault.Bad → with_statement_of name.now statement self.old ≡ None }
+        ensures bad { IsErrOf result LineFault.Bad
+            → with_statement_of name.now statement self.old ≡ None }
     {
         if self.asked >= STATEMENT_LIMIT {
             return Err(LineFault::Bad);
         }
-        let Some(at) = index_of(&self.list, name) else {
+        let Some(at) = self.number_of(name) else {
             return Err(LineFault::Bad);
         };
         push_statement_at(&mut self.list, at, statement)?;
@@ -134,7 +145,7 @@ impl Sessions {
     }
 
     fn add(&mut self, line: Line) -> Result<(), LineFault>
-        requires { IsBuiltLine line }
+        requires { IsReadableLine line }
         ensures ok { OnOk result (with_line self.old line ≡ Some self.new) }
         ensures bad { IsErrOf result LineFault.Bad → with_line self.old line ≡ None }
     {
@@ -160,8 +171,7 @@ impl Sessions {
     /// The sessions in the order in which they were declared.
     pub fn into_list(self) -> List<SessionScript>
         ensures list { result ≡ self }
-        ensures within { AreWithinLimits self }
-        ensures short { All IsShortScript self }
+        ensures readable { AreReadable self }
     {
         List::from_vec(self.list)
     }

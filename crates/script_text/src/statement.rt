@@ -1,146 +1,47 @@
 // The statement that a line asks.
-ghost use Rattle.std.specs.Prelude.{◌≡◌, IfOk, IsErrOf, Some, None, codes, option_and_then};
+ghost use Rattle.std.specs.Prelude.{◌≡◌, IfOk, IsErrOf, Some, None, codes, option_and_then, true};
 ghost use Rattle.serde_json.specs.View.{view};
-ghost use Rattle.built_statements.specs.Built.{IsBuilt};
+ghost use Rattle.built_statements.specs.Ordered.{is_ordered};
+ghost use Rattle.queue_rows.specs.Within.{is_within};
 ghost use Rattle.script_text.specs.Form.{verb_of};
 ghost use Rattle.script_text.specs.Member.{text_at};
-ghost use Rattle.script_text.specs.Statement.{create_table, create_queue, start_queue, enqueue, dequeue, statement_of, statement};
+ghost use Rattle.script_text.specs.Statement.{statement_of, statement};
 
 use crate::fault::LineFault;
 use crate::form::{Form, Verb, has_form, verb_of};
-use crate::member::{
-    fields_at, max_retries_at, mode_at, name_at, navigation_at, payload_at, table_at, text_at,
-    visibility_at,
-};
-use payload_records::List;
-use place_keys::SortList;
-use queue_rows::{Admin, Dequeue, Enqueue, QueueKind, Statement};
+use crate::member::text_at;
+use crate::{admin, message};
+use queue_rows::Statement;
 use serde_json::Value;
 use std::alloc::Global;
 
-#[tactic(auto, unfolding(crate::specs::Statement::create_table))]
-fn create_table(alloc: Global, value: &Value) -> Result<Statement, LineFault>
-    ensures ok { IfOk result (λ s. create_table (view value.now) ≡ Some s) }
-    ensures built { IfOk result IsBuilt }
-    ensures bad { IsErrOf result LineFault.Bad → create_table (view value.now) ≡ None }
-{
-    let table = table_at(alloc, value)?;
-    let fields = fields_at(alloc, value)?;
-    let sort = SortList::by_enqueue_time(alloc)?;
-    Ok(Statement::Admin(Admin::CreateTable {
-        table,
-        fields,
-        sort,
-        multi: false,
-        grouped: false,
-    }))
-}
-
-#[tactic(auto, unfolding(crate::specs::Statement::create_queue))]
-fn create_queue(alloc: Global, value: &Value) -> Result<Statement, LineFault>
-    ensures ok { IfOk result (λ s. create_queue (view value.now) ≡ Some s) }
-    ensures built { IfOk result IsBuilt }
-    ensures bad { IsErrOf result LineFault.Bad → create_queue (view value.now) ≡ None }
-{
-    let queue = name_at(alloc, value, "queue")?;
-    let table = table_at(alloc, value)?;
-    let Some(max_retries) = max_retries_at(value) else {
-        return Err(LineFault::Bad);
-    };
-    Ok(Statement::Admin(Admin::CreateQueue {
-        queue,
-        table,
-        kind: QueueKind::Normal,
-        max_retries,
-        retry_delay: 0,
-        retention: 0,
-    }))
-}
-
-#[tactic(auto, unfolding(crate::specs::Statement::start_queue))]
-fn start_queue(alloc: Global, value: &Value) -> Result<Statement, LineFault>
-    ensures ok { IfOk result (λ s. start_queue (view value.now) ≡ Some s) }
-    ensures built { IfOk result IsBuilt }
-    ensures bad { IsErrOf result LineFault.Bad → start_queue (view value.now) ≡ None }
-{
-    let queue = name_at(alloc, value, "queue")?;
-    Ok(Statement::Admin(Admin::StartQueue {
-        queue,
-        enqueue: None,
-        dequeue: true,
-    }))
-}
-
-#[tactic(auto, unfolding(crate::specs::Statement::enqueue))]
-fn enqueue(alloc: Global, value: &Value) -> Result<Statement, LineFault>
-    ensures ok { IfOk result (λ s. enqueue (view value.now) ≡ Some s) }
-    ensures built { IfOk result IsBuilt }
-    ensures bad { IsErrOf result LineFault.Bad → enqueue (view value.now) ≡ None }
-{
-    let queue = name_at(alloc, value, "queue")?;
-    let Some(visibility) = visibility_at(value) else {
-        return Err(LineFault::Bad);
-    };
-    let payload = payload_at(alloc, value)?;
-    Ok(Statement::Enqueue(Enqueue {
-        queue,
-        payload,
-        visibility,
-        priority: 1,
-        delay: 0,
-        expiration: None,
-        corr: None,
-        recipients: None,
-        exception_queue: None,
-        before: None,
-        top: false,
-        props: List::new(alloc),
-    }))
-}
-
-#[tactic(auto, unfolding(crate::specs::Statement::dequeue))]
-fn dequeue(alloc: Global, value: &Value) -> Result<Statement, LineFault>
-    ensures ok { IfOk result (λ s. dequeue (view value.now) ≡ Some s) }
-    ensures built { IfOk result IsBuilt }
-    ensures bad { IsErrOf result LineFault.Bad → dequeue (view value.now) ≡ None }
-{
-    let queue = name_at(alloc, value, "queue")?;
-    let Some(mode) = mode_at(value) else {
-        return Err(LineFault::Bad);
-    };
-    let Some(navigation) = navigation_at(value) else {
-        return Err(LineFault::Bad);
-    };
-    let Some(visibility) = visibility_at(value) else {
-        return Err(LineFault::Bad);
-    };
-    Ok(Statement::Dequeue(Dequeue {
-        queue,
-        consumer: None,
-        mode,
-        navigation,
-        visibility,
-        wait: 0,
-        msgid: None,
-        corr: None,
-        condition: None,
-    }))
-}
-
+#[tactic(auto, unfolding(queue_rows::specs::Within::is_within))]
 fn statement_of(alloc: Global, verb: Verb, value: &Value) -> Result<Statement, LineFault>
     ensures ok { IfOk result (λ s. statement_of verb (view value.now) ≡ Some s) }
-    ensures built { IfOk result IsBuilt }
+    ensures within { IfOk result (λ s. is_within s ≡ true) }
+    ensures ordered { IfOk result (λ s. is_ordered s ≡ true) }
     ensures bad { IsErrOf result LineFault.Bad → statement_of verb (view value.now) ≡ None }
 {
-    match verb {
-        Verb::CreateTable => create_table(alloc, value),
-        Verb::CreateQueue => create_queue(alloc, value),
-        Verb::StartQueue => start_queue(alloc, value),
-        Verb::Enqueue => enqueue(alloc, value),
-        Verb::Dequeue => dequeue(alloc, value),
-        Verb::Commit => Ok(Statement::Commit),
-        Verb::Rollback => Ok(Statement::Rollback),
-    }
+    let ask = match verb {
+        Verb::Enqueue => return Ok(Statement::Enqueue(message::enqueue(alloc, value)?)),
+        Verb::Dequeue => return Ok(Statement::Dequeue(message::dequeue(alloc, value)?)),
+        Verb::Listen => return Ok(Statement::Listen(message::listen(alloc, value)?)),
+        Verb::Commit => return Ok(Statement::Commit),
+        Verb::Rollback => return Ok(Statement::Rollback),
+        Verb::CreateTable => admin::create_table(alloc, value)?,
+        Verb::DropTable => admin::drop_table(alloc, value)?,
+        Verb::CreateQueue => admin::create_queue(alloc, value)?,
+        Verb::DropQueue => admin::drop_queue(alloc, value)?,
+        Verb::StartQueue => admin::start_queue(alloc, value)?,
+        Verb::StopQueue => admin::stop_queue(alloc, value)?,
+        Verb::AddSubscriber => admin::add_subscriber(alloc, value)?,
+        Verb::RemoveSubscriber => admin::remove_subscriber(alloc, value)?,
+        Verb::Schedule => admin::schedule(alloc, value)?,
+        Verb::Unschedule => admin::unschedule(alloc, value)?,
+        Verb::EnableSchedule => admin::enable_schedule(alloc, value)?,
+        Verb::DisableSchedule => admin::disable_schedule(alloc, value)?,
+    };
+    Ok(Statement::Admin(ask))
 }
 
 fn verb_at(value: &Value) -> Option<Verb>
@@ -153,7 +54,8 @@ fn verb_at(value: &Value) -> Option<Verb>
 #[tactic(auto, unfolding(crate::specs::Statement::statement))]
 pub fn statement_at(alloc: Global, value: &Value) -> Result<Statement, LineFault>
     ensures ok { IfOk result (λ s. statement (view value.now) ≡ Some s) }
-    ensures built { IfOk result IsBuilt }
+    ensures within { IfOk result (λ s. is_within s ≡ true) }
+    ensures ordered { IfOk result (λ s. is_ordered s ≡ true) }
     ensures bad { IsErrOf result LineFault.Bad → statement (view value.now) ≡ None }
 {
     let Some(verb) = verb_at(value) else {
