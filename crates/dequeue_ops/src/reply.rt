@@ -1,11 +1,9 @@
-// What the session that is given a message is told, and where it then stands.
+// What the session that is given a message is shown of it.
 ghost use Rattle.std.specs.Prelude.{◌≡◌, IfOk};
 ghost use Rattle.queue_rows.specs.Dequeueing.{retries_of, shown_in};
-ghost use Rattle.dequeue_ops.specs.Effects.{message_reply, position_at};
 
-use aq_base::DbId;
-use payload_records::{Copied, Name};
-use queue_rows::{Mode, MsgId, MsgRow, Position, Reply, Shown, TableRow};
+use payload_records::Copied;
+use queue_rows::{Mode, MsgRow, Shown, TableRow};
 use std::alloc::AllocError;
 
 /// How often a removal of that slot was rolled back; 0 where the message has none.
@@ -33,39 +31,4 @@ pub(crate) fn shown_in(
             cells: message.facts.cells.copied()?,
         })),
     }
-}
-
-/// The reply that gives the message of a database, with the retries of that slot.
-pub fn message_reply(
-    at: DbId,
-    mode: Mode,
-    table: &TableRow,
-    message: &MsgRow,
-    slot: u32,
-) -> Result<Reply, AllocError>
-    ensures { IfOk result (λ reply. reply ≡ message_reply at mode table.now message.now slot) }
-{
-    Ok(Reply::Message {
-        id: MsgId {
-            db: at,
-            number: message.id,
-        },
-        priority: message.facts.priority,
-        retries: retries_of(message, slot),
-        corr: Copied::copied(&message.facts.corr)?,
-        payload: shown_in(mode, table, message)?,
-        props: message.facts.props.copied()?,
-    })
-}
-
-/// The position at the message, without a consumer.
-pub fn position_at(queue: &Name, message: &MsgRow) -> Result<Position, AllocError>
-    ensures { IfOk result (λ p. p ≡ position_at queue.now message.now) }
-{
-    Ok(Position {
-        queue: queue.copied()?,
-        consumer: None,
-        place: message.place.copied()?,
-        group: message.group,
-    })
 }

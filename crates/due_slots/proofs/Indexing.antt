@@ -41,7 +41,7 @@ purge_has retention m row some = by (is_handled m) some
     by true e = ap (λ (x : DueRow). x.id) (one_has (due_row (purge_moment retention m) m.id 0) row e)
     by false e = absurd (false≢true e)
 
-rows_have : (retention : ℕ) (m : MsgRow) (row : DueRow) → has (rows_of retention m) row ≡ true → m.id ≡ row.id
+pub rows_have : (retention : ℕ) (m : MsgRow) (row : DueRow) → has (rows_of retention m) row ≡ true → m.id ≡ row.id
 rows_have retention m row some =
     elim (or_cases (has (flat_map (slot_row m) (slot_numbers m)) row) (has (purge_row retention m) row)
     (sym (list_any-append (is_row row) (flat_map (slot_row m) (slot_numbers m)) (purge_row retention m)) ∙ some)) [

@@ -37,3 +37,7 @@ RowsNameDue = (t : Tables) (keeps : List ℕ → ℕ) (rows : List DueRow)
 -- a message has a row for each recipient's slot, one for slot 0 and one of its own at most
 abbrev pub RowsAreFew : Type 0
 RowsAreFew = (retention : ℕ) (m : MsgRow) → length (rows_of retention m) ≤ recipient_count m + 2
+
+-- the rows of a message have its number
+abbrev pub RowsHaveItsNumber : Type 0
+RowsHaveItsNumber = (retention : ℕ) (m : MsgRow) (row : DueRow) → has (rows_of retention m) row ≡ true → m.id ≡ row.id

@@ -1,5 +1,5 @@
 // Laws of rows and the messages that they are of, for crates above.
-ghost use Rattle.due_slots.specs.Laws.{AddingIndexes, JoinedTells, RemovingIndexes, RowsAreFew, RowsNameDue, WithoutTells};
+ghost use Rattle.due_slots.specs.Laws.{AddingIndexes, JoinedTells, RemovingIndexes, RowsAreFew, RowsHaveItsNumber, RowsNameDue, WithoutTells};
 
 /// Which rows are left when some are taken out.
 pub fn without_tells()
@@ -29,4 +29,9 @@ pub fn rows_name_due()
 /// How many rows a message has at most, so that room can be made for them.
 pub fn rows_are_few()
     ensures { RowsAreFew }
+{}
+
+/// The rows of a message have its number.
+pub fn rows_have_its_number()
+    ensures { RowsHaveItsNumber }
 {}

@@ -1,5 +1,5 @@
 -- What holds of the effect of an enqueue.
-use Rattle.std.specs.Prelude.{◌≡◌, ◌+◌, ℕ, List, Option, Result, All}
+use Rattle.std.specs.Prelude.{◌≡◌, ℕ, List, Option, Result}
 use Rattle.aq_base.specs.declared.DbId.{DbId}
 use Rattle.payload_records.specs.Record.{record_of}
 use Rattle.payload_records.specs.declared.record.Record.{Record}
@@ -13,9 +13,8 @@ use Rattle.queue_rows.specs.declared.rows.MsgRow.{MsgRow}
 use Rattle.queue_rows.specs.declared.reply.Reply.{Reply}
 use Rattle.queue_rows.specs.declared.statement.Enqueue.{Enqueue}
 use Rattle.queue_rows.specs.declared.statement.Visibility.{Visibility}
-use Rattle.sessions.specs.Effects.{meant, ids_of}
+use Rattle.sessions.specs.Effects.{meant}
 use Rattle.sessions.specs.States.{IsStateOf}
-use Rattle.sessions.specs.Within.{IsWithin}
 use Rattle.sessions.specs.declared.state.Effect.{Effect}
 use Rattle.sessions.specs.declared.state.SessionState.{SessionState}
 use Rattle.enqueue_ops.specs.declared.addition.Stamp.{Stamp}
@@ -51,11 +50,3 @@ MeansToAddPayload db t table ask stamp e =
 -- what an enqueue means for each session with that state
 abbrev pub MeansToEnqueue : SessionState → Tables → Enqueue → ℕ → ℕ → Effect → Type 0
 MeansToEnqueue state t ask next moment e = MeansFor (IsStateOf state) (λ s. enqueue t s ask next moment) moment e
-
--- what is committed stays below that id and that group
-abbrev pub CommitsBelow : ℕ → ℕ → Effect → Type 0
-CommitsBelow id group e = (r : ℕ) → All (IsWithin id group r) e.commit
-
--- what is committed stays below the next id and group, and where an id is taken, below the next ones
-abbrev pub CommitsWithin : ℕ → ℕ → Effect → Type 0
-CommitsWithin next transaction e = CommitsBelow (next + ids_of e.verdict) (transaction + ids_of e.verdict) e

@@ -1,5 +1,5 @@
 // What an enqueue is answered, of every member that it may have.
-ghost use Rattle.std.specs.Prelude.{◌≡◌, ◌≤◌, ◌^◌, true, IfOk, option_copied};
+ghost use Rattle.std.specs.Prelude.{◌≡◌, ◌≤◌, ◌^◌, true, None, IfOk, option_copied};
 ghost use Rattle.queue_rows.specs.Enqueueing.{names_bad_exception};
 ghost use Rattle.queue_rows.specs.Recipients.{names_recipients};
 ghost use Rattle.queue_rows.specs.Settling.{is_exception_of};
@@ -68,7 +68,8 @@ fn add_message<T: MessageTables>(
     requires valid { is_valid (T.tables store.now) ≡ true }
     requires addable { IsAddable message }
     requires moment { moment ≤ 2 ^ 62 }
-    ensures { IfOk result (MeansToAdd at visibility (T.tables store.now) message moment) }
+    ensures means { IfOk result (MeansToAdd at visibility (T.tables store.now) message moment) }
+    ensures unmarked { IfOk result (λ e. e.mark ≡ None) }
 {
     let reply = Reply::Enqueued(MsgId {
         db: at,
@@ -100,7 +101,9 @@ fn enqueue_taken<T: MessageTables>(
 ) -> Result<Effect, AllocError>
     requires may { MayAsk (T.tables store.now) table.now ask.now stamp }
     requires taken { IsTaken at (T.tables store.now) table.now ask.now }
-    ensures { IfOk result (MeansToEnqueueCells at (T.tables store.now) table.now ask.now cells.now stamp) }
+    ensures means { IfOk result
+        (MeansToEnqueueCells at (T.tables store.now) table.now ask.now cells.now stamp) }
+    ensures unmarked { IfOk result (λ e. e.mark ≡ None) }
 {
     let agents = match chosen(alloc, store.tables(), table, ask, cells) {
         Ok(agents) => agents,
@@ -129,7 +132,9 @@ fn enqueue_cells<T: MessageTables>(
     stamp: Stamp,
 ) -> Result<Effect, AllocError>
     requires may { MayAsk (T.tables store.now) table.now ask.now stamp }
-    ensures { IfOk result (MeansToEnqueueCells at (T.tables store.now) table.now ask.now cells.now stamp) }
+    ensures means { IfOk result
+        (MeansToEnqueueCells at (T.tables store.now) table.now ask.now cells.now stamp) }
+    ensures unmarked { IfOk result (λ e. e.mark ≡ None) }
 {
     if names_recipients(ask) && !table.multi {
         return Ok(refused(alloc, Reply::ConsumerRefused));
@@ -160,7 +165,8 @@ fn enqueue_typed<T: MessageTables>(
     stamp: Stamp,
 ) -> Result<Effect, AllocError>
     requires may { MayAsk (T.tables store.now) table.now ask.now stamp }
-    ensures { IfOk result (MeansToAddPayload at (T.tables store.now) table.now ask.now stamp) }
+    ensures means { IfOk result (MeansToAddPayload at (T.tables store.now) table.now ask.now stamp) }
+    ensures unmarked { IfOk result (λ e. e.mark ≡ None) }
 {
     match Record::from_json(alloc, &table.fields, &ask.payload) {
         Ok(cells) => enqueue_cells(alloc, store, at, table, ask, &cells, stamp),
@@ -184,7 +190,8 @@ pub fn enqueue<T: MessageTables>(
     requires within { is_within (statements.Enqueue ask.now) ≡ true }
     requires next { next ≤ 2 ^ 61 }
     requires moment { moment ≤ 2 ^ 62 }
-    ensures { IfOk result (MeansToEnqueue session.now (T.tables store.now) ask.now next moment) }
+    ensures means { IfOk result (MeansToEnqueue session.now (T.tables store.now) ask.now next moment) }
+    ensures unmarked { IfOk result (λ e. e.mark ≡ None) }
 {
     let tables = store.tables();
     let Some(queue) = find_queue(tables, &ask.queue) else {

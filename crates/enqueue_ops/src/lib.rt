@@ -8,4 +8,3 @@ mod message;
 mod relative;
 
 pub use answer::enqueue;
-pub use effect::enqueue_plain;

@@ -1,9 +1,10 @@
 // What a listen is answered.
-ghost use Rattle.std.specs.Prelude.{◌≡◌, true, IfOk};
+ghost use Rattle.std.specs.Prelude.{◌≡◌, [], true, IfOk};
 ghost use Rattle.slot_marks.specs.Marks.{marks_of};
 ghost use Rattle.queue_rows.specs.Valid.{is_valid};
 ghost use Rattle.queue_rows.specs.Within.{is_within};
 ghost use Rattle.queue_rows.specs.declared.statement.Statement.TheVariants as statements;
+ghost use Rattle.sessions.specs.Effects.{plain_effect};
 ghost use Rattle.message_choice.specs.Sound.{AreInGroups};
 ghost use Rattle.listen_ops.specs.Listened.{IsListen};
 
@@ -31,7 +32,8 @@ pub fn listen<T: ChoosesMessages>(
     requires tables { is_valid (T.tables store.now) ≡ true }
     requires within { is_within (statements.Listen ask.now) ≡ true }
     requires groups { AreInGroups (T.tables store.now) (marks_of locks.now actor) }
-    ensures { IfOk result (IsListen (T.tables store.now) locks.now actor session.now ask.now moment) }
+    ensures means { IfOk result (IsListen (T.tables store.now) locks.now actor session.now ask.now moment) }
+    ensures plain { IfOk result (λ e. e ≡ plain_effect e.verdict []) }
 {
     if let Some(reply) = agents_fault(store.tables(), &ask.agents) {
         return Ok(Effect::answered(alloc, reply));

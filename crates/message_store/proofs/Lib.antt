@@ -1,3 +1,6 @@
+pub mod DueLemmas
+pub mod EntryLemmas
+pub mod IndexLemmas
 pub mod SuffixLemmas
 pub mod FindLemmas
 pub mod PlaceLemmas

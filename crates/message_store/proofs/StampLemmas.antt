@@ -1,19 +1,22 @@
 -- What is told of ids by their stamps, and how it follows the entries.
-use Rattle.std.proofs.Common.{◌≡◌, ℕ, suc, ◌+◌, ◌<◌, ◌≤◌, List, [], ◌∷◌, ◌++◌, map, take, drop, length, Bool, true, false, cond, not, inl, inr, Option, Some, None, ◌==◌, nat_lt, refl, sym, ap, ◌∙◌, subst, arith, get_or, append-nil, length-append, drop-cons}
-use Rattle.std.specs.Prelude.{All, position, remove, count_by, filter}
-use Rattle.std.specs.List.{prefix_len, position_or_len}
+use Rattle.std.proofs.Common.{◌≡◌, ℕ, zero, suc, ◌+◌, ◌<◌, ◌≤◌, List, [], ◌∷◌, ◌++◌, map, take, drop, length, Bool, true, false, cond, not, inl, inr, Option, Some, None, ◌==◌, nat_lt, refl, sym, ap, ◌∙◌, subst, arith, get_or, append-nil, length-append, drop-cons}
+use Rattle.std.specs.Prelude.{All, position, remove, count_by, filter, slice_get}
+use Rattle.std.specs.Option.{option_map_or}
+use Rattle.std.specs.List.{AllByRecursion, prefix_len, position_or_len}
 use Rattle.std.specs.Cmp.{nat_cmp_is}
 use Rattle.std.specs.Ordering.{is_lt, nat_cmp}
 use Rattle.std.specs.declared.cmp.Ordering.TheVariants.{Less, Equal, Greater}
-use Rattle.std.proofs.lemmas.Bool.{cases_eq, cases_Bool, lt-ltb, le-ltb, ltb-true, ltb-false}
+use Rattle.std.proofs.lemmas.Bool.{cases_eq, cases_Bool, lt-ltb, le-ltb, ltb-true, ltb-false, ne_eqb, eqb-false}
 use Rattle.std.proofs.lemmas.List.{take-append-drop, map-append, take-map, drop-map, length-map, nil_from_length}
 use Rattle.std.proofs.lemmas.List.Elements.{All-append, All-drop, All-filter, All-head, All-map, All-push, All-tail, All-take, All-weaker, filter-append}
 use Rattle.std.proofs.lemmas.List.Folds.{fold-map}
 use Rattle.std.proofs.lemmas.List.Sums.{length-filter}
+use Rattle.std.proofs.lemmas.Option.{none-some, slice_get_within}
 use Rattle.row_tree.specs.Bounds.{is_before}
 use Rattle.row_tree.specs.Split.{NonePass, IsSplit}
 use Rattle.message_store.specs.StampOrder.{to_stamp}
-use Rattle.message_store.specs.Stamps.{listed, stamps_of, AreBelow, AreRising, HasStamps, TellsStamps, with_entry, without_entry}
+use Rattle.message_store.specs.Stamped.{AreStamps, Rise}
+use Rattle.message_store.specs.Stamps.{listed, stamps_in, stamps_of, AreBelow, AreRising, HasStamps, TellsStamps, with_entry, without_entry}
 use Rattle.message_store.specs.declared.entry.Entry.{Entry}
 use Rattle.message_store.specs.declared.message_index.Place.{Place}
 use Rattle.message_store.specs.declared.message_index.Place.TheVariants as places
@@ -215,3 +218,109 @@ pub below_pushed : (next : ℕ) (es : List Entry) (e : Entry) → AreBelow next 
 below_pushed next es e below is =
     let Below : Entry → Type 0 = λ l. l.stamp < next + 1 in
     All-push Below es e (All-weaker (λ (l : Entry). l.stamp < next) Below (λ l h. omega (arith, h)) es below) (omega (arith, is))
+
+-- ---- stamps alone
+
+module _ {X : Type 0} (P : X → Type 0) where
+  by_recursion : (xs : List X) → All P xs → AllByRecursion P xs
+  by_recursion [] all = tt
+  by_recursion (x ∷ xs) all = (All-head P x xs all, by_recursion xs (All-tail P x xs all))
+
+stamps_above : (n : ℕ) (es : List Entry) → AllByRecursion (λ e. n < e.stamp) es → AllByRecursion (λ later. n < later) (stamps_in es)
+stamps_above n [] all = tt
+stamps_above n (e ∷ es) all = (all.0, stamps_above n es all.1)
+
+-- the stamps of rising entries rise
+pub stamps_rise : (es : List Entry) → AreRising es → Rise (stamps_in es)
+stamps_rise [] rising = tt
+stamps_rise (e ∷ es) rising =
+    (stamps_above e.stamp es (by_recursion (λ later. e.stamp < later.stamp) es (above_head e es rising)), stamps_rise es (tail_rises e es rising))
+
+pub are_stamps : (es : List Entry) → AreRising es → AreStamps (length (listed es)) (stamps_in es)
+are_stamps es rising = record { rise = stamps_rise es rising; long = length-map es (λ (e : Entry). e.stamp) ∙ sym (length-map es (λ (e : Entry). e.id)) }
+
+-- the stamps without one are those of the entries without it
+pub stamps_removed : (es : List Entry) (at : ℕ) → stamps_in (remove es at) ≡ remove (stamps_in es) at
+stamps_removed es at =
+    let f : Entry → ℕ = λ e. e.stamp in
+    map-append f (take at es) (drop (suc at) es) ∙ ap (λ x. x ++ map f (drop (suc at) es)) (sym (take-map f at es)) ∙ ap (λ x. take at (map f es) ++ x) (sym (drop-map f (suc at) es))
+
+-- the stamp at an index is that of the entry there
+pub stamp_there : (es : List Entry) (at : ℕ) (e : Entry) → slice_get es at ≡ Some e → slice_get (stamps_in es) at ≡ Some e.stamp
+stamp_there [] at e there = absurd (none-some e there)
+stamp_there (x ∷ es) zero e there = cc
+stamp_there (x ∷ es) (suc at) e there = stamp_there es at e there
+
+absent : (s : ℕ) (es : List Entry) → All (λ e. s < e.stamp) es → position_or_len (λ k. k == s) (stamps_in es) ≡ length es
+absent s [] all = refl
+absent s (e ∷ es) all =
+    let P : Entry → Type 0 = λ e. s < e.stamp in
+    let other : (e.stamp == s) ≡ false = let h = All-head P e es all in ne_eqb e.stamp s (λ same. omega (arith, h, same)) in
+    let behind = absent s es (All-tail P e es all) in
+    rw other (omega (arith, behind))
+
+-- where a stamp stands, told by what stands behind the lower ones
+abbrev pub told_place : ℕ → List Entry → ℕ
+told_place s es = let n = prefix_len (λ e. nat_lt e.stamp s) es in option_map_or (λ e. cond (e.stamp == s) n (length es)) (slice_get es n) (length es)
+
+one_further : (s n long : ℕ) (o : Option Entry) → option_map_or (λ e. cond (e.stamp == s) (1 + n) (suc long)) o (suc long) ≡ 1 + option_map_or (λ e. cond (e.stamp == s) n long) o long
+one_further s n long None = omega arith
+one_further s n long (Some e) = elim (cases_Bool (e.stamp == s)) [
+  | inl same ↦ rw same refl
+  | inr other ↦ rw other (omega arith)
+]
+
+further : (e : Entry) (es : List Entry) (n : ℕ) → slice_get (e ∷ es) (1 + n) ≡ slice_get es n
+further e es n = let next : 1 + n ≡ suc n = omega arith in ap (slice_get (e ∷ es)) next
+
+place_told : (s : ℕ) (es : List Entry) → AreRising es → position_or_len (λ k. k == s) (stamps_in es) ≡ told_place s es
+place_told s [] rising = refl
+place_told s (e ∷ es) rising = elim (cases_Bool (nat_lt e.stamp s)) [
+  | inl below ↦
+      let n = prefix_len (λ e. nat_lt e.stamp s) es in
+      let less : e.stamp < s = ltb-true e.stamp s below in
+      let other : (e.stamp == s) ≡ false = ne_eqb e.stamp s (λ same. omega (arith, less, same)) in
+      let behind = place_told s es (tail_rises e es rising) in
+      rw (below, other) (ap (λ k. 1 + k) behind ∙ sym (one_further s n (length es) (slice_get es n))
+      ∙ ap (λ o. option_map_or (λ e. cond (e.stamp == s) (1 + n) (suc (length es))) o (suc (length es))) (sym (further e es n)))
+  | inr past ↦ elim (cases_Bool (e.stamp == s)) [
+    | inl same ↦ rw (past, same) refl
+    | inr other ↦
+        let least : s ≤ e.stamp = ltb-false e.stamp s past in
+        let more : s < e.stamp = elim (cases_Bool (nat_lt s e.stamp)) [
+          | inl less ↦ ltb-true s e.stamp less
+          | inr not_less ↦ let same : e.stamp ≡ s = let most = ltb-false s e.stamp not_less in omega (arith, least, most) in absurd (eqb-false e.stamp s other same)
+        ] in
+        let all = All-weaker (λ (l : Entry). e.stamp < l.stamp) (λ (l : Entry). s < l.stamp) (λ l h. omega (arith, h, more)) es (above_head e es rising) in
+        rw (past, other) (let none = absent s es all in omega (arith, none))
+  ]
+]
+
+placed : (s n : ℕ) (es : List Entry) → position_or_len (λ k. k == s) (stamps_in es) ≡ n → cond (nat_lt n (length es)) (Some n) None ≡ position (λ k. k == s) (stamps_in es)
+placed s n es is =
+    let long = length-map es (λ (e : Entry). e.stamp) in
+    ap (λ l. cond (nat_lt n l) (Some n) None) (sym long) ∙ ap (λ k. cond (nat_lt k (length (stamps_in es))) (Some k) None) (sym is)
+
+module _ (s : ℕ) (es : List Entry) (rising : AreRising es) where
+  told_by : (o : Option Entry) → slice_get es (prefix_len (λ e. nat_lt e.stamp s) es) ≡ o
+      → position_or_len (λ k. k == s) (stamps_in es) ≡ option_map_or (λ e. cond (e.stamp == s) (prefix_len (λ e. nat_lt e.stamp s) es) (length es)) o (length es)
+  told_by o is = place_told s es rising ∙ ap (λ o. option_map_or (λ e. cond (e.stamp == s) (prefix_len (λ e. nat_lt e.stamp s) es) (length es)) o (length es)) is
+
+  past_all : position_or_len (λ k. k == s) (stamps_in es) ≡ length es → None ≡ position (λ k. k == s) (stamps_in es)
+  past_all is =
+      let n = length es in
+      let past : nat_lt n n ≡ false = le-ltb n n (omega arith) in
+      ap (λ b. cond b (Some n) None) (sym past) ∙ placed s n es is
+
+  pub rank_none : slice_get es (prefix_len (λ e. nat_lt e.stamp s) es) ≡ None → None ≡ position (λ k. k == s) (stamps_in es)
+  rank_none none = past_all (told_by None none)
+
+  pub rank_other : (e : Entry) → slice_get es (prefix_len (λ e. nat_lt e.stamp s) es) ≡ Some e → (e.stamp == s) ≡ false → None ≡ position (λ k. k == s) (stamps_in es)
+  rank_other e there other = past_all (told_by (Some e) there ∙ ap (λ b. cond b (prefix_len (λ e. nat_lt e.stamp s) es) (length es)) other)
+
+  pub rank_some : (e : Entry) → slice_get es (prefix_len (λ e. nat_lt e.stamp s) es) ≡ Some e → (e.stamp == s) ≡ true
+      → Some (prefix_len (λ e. nat_lt e.stamp s) es) ≡ position (λ k. k == s) (stamps_in es)
+  rank_some e there same =
+      let n = prefix_len (λ e. nat_lt e.stamp s) es in
+      let inside : nat_lt n (length es) ≡ true = lt-ltb n (length es) (slice_get_within es n e there) in
+      ap (λ b. cond b (Some n) None) (sym inside) ∙ placed s n es (told_by (Some e) there ∙ ap (λ b. cond b n (length es)) same)

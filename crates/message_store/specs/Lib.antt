@@ -12,3 +12,7 @@ pub mod Open
 pub mod Beside
 pub mod Stored
 pub mod Prepared
+pub mod Stamped
+pub mod Kept
+pub mod DueKept
+pub mod Caches

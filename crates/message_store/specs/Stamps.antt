@@ -9,6 +9,10 @@ use Rattle.message_store.specs.declared.message_index.Place.TheVariants as place
 abbrev pub listed : List Entry → List ℕ
 listed entries = map (λ e. e.id) entries
 
+-- the stamps in the order of the list
+abbrev pub stamps_in : List Entry → List ℕ
+stamps_in entries = map (λ e. e.stamp) entries
+
 -- the stamps of those entries that have the id
 abbrev pub stamps_of : ℕ → List Entry → List ℕ
 stamps_of id entries = map (λ e. e.stamp) (filter (λ e. e.id == id) entries)

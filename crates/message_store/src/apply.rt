@@ -131,7 +131,7 @@ fn apply_all(opened: &mut OpenTables, changes: List<Change>, alloc: Global)
     }
 }
 
-/// Makes the changes of a commit, in order, at its moment. It takes no memory.
+/// Makes the changes of a commit, in order, at its moment. It needs no memory.
 #[tactic(auto, unfolding(queue_rows::specs::Tables::after))]
 pub(crate) fn apply(opened: &mut OpenTables, commit: Commit, alloc: Global)
     requires { AreReady (held opened.old) (room_of opened.old) commit.changes }

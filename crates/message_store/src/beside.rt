@@ -53,6 +53,7 @@ impl Beside {
         changes: &List<Change>,
     ) -> Result<(), AllocError>
         ensures ids { self.new.index.ids ≡ self.old.index.ids }
+        ensures stamps { self.new.index.stamps ≡ self.old.index.stamps }
         ensures slots { self.new.slots.items ≡ self.old.slots.items }
         ensures room { OnOk result (HasRoom (room_beside tables.now self.new) changes.now) }
     {

@@ -1,7 +1,8 @@
 // An index of messages by their ids.
-ghost use Rattle.std.specs.Prelude.{◌≡◌, ◌==◌, ◌+◌, ◌<◌, ◌≤◌, [], ◌∷◌, ◌++◌, Some, IsTrue, IfSome, OnOk, OnErr, count_by, length, nat_eq, nat_lt, position, remove};
+ghost use Rattle.std.specs.Prelude.{◌≡◌, ◌==◌, ◌+◌, ◌<◌, ◌≤◌, [], ◌∷◌, ◌++◌, Some, IsTrue, IfSome, OnOk, OnErr, count_by, length, nat_eq, nat_lt, position, remove, slice_get};
 ghost use Rattle.std.specs.HashMap.{get, hash_map_len, spare};
 ghost use Rattle.std.specs.List.{prefix_len};
+ghost use Rattle.message_store.specs.Stamped.{AreStamps};
 ghost use Rattle.message_store.specs.Stamps.{AreRising, TellsChanged, with_entry, without_entry};
 
 use crate::entry::{AtStamp, Entry};
@@ -40,9 +41,9 @@ impl Model for MessageIndex {
 
     ghost Value = { Indexed };
 
-    ghost use Rattle.message_store.specs.Stamps.{listed, AreRising, AreBelow, TellsStamps};
+    ghost use Rattle.message_store.specs.Stamps.{listed, stamps_in, AreRising, AreBelow, TellsStamps};
 
-    ghost view = { λ i. record { ids = listed i.entries; room = i.room } };
+    ghost view = { λ i. record { ids = listed i.entries; stamps = stamps_in i.entries; room = i.room } };
 
     ghost use Rattle.std.below.core.specs.declared.int.usize.TheConstants.{MAX};
 
@@ -58,7 +59,7 @@ impl Model for MessageIndex {
 impl MessageIndex {
     /// No ids, and memory for none. It takes no memory.
     pub(crate) fn new(alloc: Global) -> MessageIndex
-        ensures { result ≡ record { ids = []; room = 0 } }
+        ensures { result ≡ record { ids = []; stamps = []; room = 0 } }
     {
         MessageIndex {
             entries: Tree::new(),
@@ -73,6 +74,7 @@ impl MessageIndex {
     /// Takes memory for so many more ids. There is none past 2^64 stamps.
     pub(crate) fn reserve(&mut self, room: usize) -> Result<(), AllocError>
         ensures ids { self.new.ids ≡ self.old.ids }
+        ensures stamps { self.new.stamps ≡ self.old.stamps }
         ensures ok { OnOk result (room ≤ self.new.room) }
         ensures err { OnErr result (self.new.room ≡ self.old.room) }
     {
@@ -110,6 +112,28 @@ impl MessageIndex {
         }
     }
 
+    /// The stamp of the one at an index. It takes no memory.
+    pub(crate) fn stamp_at(&self, at: usize) -> u64
+        requires { at < length self.now.ids }
+        ensures { slice_get self.now.stamps at ≡ Some result }
+    {
+        let Some(entry) = self.entries.get(at) else {
+            unreachable!()
+        };
+        entry.stamp
+    }
+
+    /// Where the one with that stamp stands. It takes no memory.
+    pub(crate) fn rank(&self, stamp: u64) -> Option<usize>
+        ensures { result ≡ position (λ s. s == stamp) self.now.stamps }
+    {
+        let at = count_before(&self.entries, stamp);
+        let Some(entry) = self.entries.get(at) else {
+            return None;
+        };
+        if entry.stamp == stamp { Some(at) } else { None }
+    }
+
     /// Whether at most one stands there with that id. It may say no where that is so, and yes only where it is
     /// so.
     pub(crate) fn is_alone(&self, id: u64) -> bool
@@ -122,28 +146,30 @@ impl MessageIndex {
         }
     }
 
-    /// Puts an id last, and gives the place for its message. It takes no memory.
-    pub(crate) fn push(&mut self, id: u64) -> Spare<MsgRow>
+    /// Puts an id last, and gives the place and the stamp for its message. It takes no memory.
+    pub(crate) fn push(&mut self, id: u64) -> (Spare<MsgRow>, u64)
         requires { 0 < self.old.room }
         ensures countable { length self.old.ids < usize.MAX }
         ensures ids { self.new.ids ≡ self.old.ids ++ id ∷ [] }
+        ensures stamps { self.new.stamps ≡ self.old.stamps ++ result.1 ∷ [] }
+        ensures stamped { AreStamps (length self.new.ids) self.new.stamps }
         ensures room { self.old.room ≡ self.new.room + 1 }
     {
-        let entry = Entry {
-            id,
-            stamp: self.next,
-        };
+        let stamp = self.next;
+        let entry = Entry { id, stamp };
         note(&mut self.places, entry);
         self.entries.push(entry, self.spares.take());
         self.next += 1;
         self.room -= 1;
-        self.rows.take()
+        (self.rows.take(), stamp)
     }
 
     /// Takes the id at an index out. It takes no memory.
     pub(crate) fn remove(&mut self, at: usize)
         requires { at < length self.old.ids }
         ensures ids { self.new.ids ≡ remove self.old.ids at }
+        ensures stamps { self.new.stamps ≡ remove self.old.stamps at }
+        ensures stamped { AreStamps (length self.new.ids) self.new.stamps }
         ensures room { self.new.room ≡ self.old.room }
     {
         let (entry, _spare) = self.entries.remove(at);

@@ -1,10 +1,13 @@
 // The tables of a database, while a commit is made.
-ghost use Rattle.std.specs.Prelude.{◌≡◌};
+ghost use Rattle.std.specs.Prelude.{◌≡◌, length};
 ghost use Rattle.message_store.specs.Messages.{ids_of};
 ghost use Rattle.message_store.specs.Open.{held, room_of};
 ghost use Rattle.message_store.specs.Beside.{room_beside};
+ghost use Rattle.message_store.specs.Caches.{AreOf};
+ghost use Rattle.message_store.specs.Stamped.{AreStamps};
 
 use crate::beside::Beside;
+use crate::caches::Caches;
 use crate::open_messages::OpenMessages;
 use crate::open_rows::OpenRows;
 use crate::row_room::RowRoom;
@@ -39,8 +42,10 @@ pub(crate) struct OpenTables {
 
 impl OpenTables {
     /// The tables, opened, with what is kept beside them. It takes no memory.
-    pub(crate) fn of(tables: Tables, beside: Beside) -> OpenTables
-        requires { beside.index.ids ≡ ids_of tables.messages }
+    pub(crate) fn of(tables: Tables, beside: Beside, caches: Caches) -> OpenTables
+        requires ids { beside.index.ids ≡ ids_of tables.messages }
+        requires stamped { AreStamps (length beside.index.ids) beside.index.stamps }
+        requires caches { AreOf beside.index.stamps tables.messages caches }
         ensures held { held result ≡ tables }
         ensures room { room_of result ≡ room_beside tables beside }
     {
@@ -49,7 +54,7 @@ impl OpenTables {
             queues: beside.queues.open(tables.queues),
             subs: beside.subs.open(tables.subs),
             schedules: beside.schedules.open(tables.schedules),
-            messages: OpenMessages::of(tables.messages, beside.index),
+            messages: OpenMessages::of(tables.messages, beside.index, caches),
             seen: beside.seen.open(tables.seen),
             slots: beside.slots,
             next: tables.next,
@@ -59,11 +64,13 @@ impl OpenTables {
     }
 
     /// The tables, closed again, and what is kept beside them. It takes no memory.
-    pub(crate) fn close(self, alloc: Global) -> (Tables, Beside)
+    pub(crate) fn close(self, alloc: Global) -> (Tables, Beside, Caches)
         ensures tables { result.0 ≡ held self }
-        ensures index { result.1.index.ids ≡ ids_of result.0.messages }
+        ensures ids { result.1.index.ids ≡ ids_of result.0.messages }
+        ensures stamped { AreStamps (length result.1.index.ids) result.1.index.stamps }
+        ensures caches { AreOf result.1.index.stamps result.0.messages result.2 }
     {
-        let (messages, index) = self.messages.close();
+        let (messages, index, caches) = self.messages.close();
         let tables = Tables {
             tables: self.tables.into_list(),
             queues: self.queues.into_list(),
@@ -75,6 +82,6 @@ impl OpenTables {
             transaction: self.transaction,
             latest: self.latest,
         };
-        (tables, Beside::of(alloc, index))
+        (tables, Beside::of(alloc, index), caches)
     }
 }

@@ -1,30 +1,39 @@
 // The messages of a database, while a commit is made.
-ghost use Rattle.std.specs.Prelude.{◌≡◌, ◌==◌, ◌+◌, ◌-◌, ◌<◌, ◌≤◌, [], ◌∷◌, ◌++◌, IfSome, IsTrue, OnOk, OnErr, count_by, filter, find, length, not, option_copied, position, remove};
+ghost use Rattle.std.specs.Prelude.{◌≡◌, ◌==◌, ◌+◌, ◌-◌, ◌<◌, ◌≤◌, [], ◌∷◌, ◌++◌, IfSome, IsTrue, OnOk, OnErr, count_by, filter, find, length, not, option_copied, position, remove, slice_get};
 ghost use Rattle.std.specs.Str.{bytes_eq};
 ghost use Rattle.queue_rows.specs.Rows.{with_slot};
 ghost use Rattle.queue_rows.specs.Tables.{in_state, moved_to, retried};
 ghost use Rattle.message_store.specs.Messages.{ids_of, with_changed, stands_in, KeepsId};
 ghost use Rattle.message_store.specs.Rows.{filtered, without_first};
+ghost use Rattle.message_store.specs.Caches.{AreOf};
+ghost use Rattle.message_store.specs.DueKept.{Gains, IfDue, keeps_in};
+ghost use Rattle.message_store.specs.Stamped.{AreStamps, Forgets, Notes};
+ghost use Rattle.row_tree.specs.Edits.{edit_at};
 
+use crate::caches::Caches;
+use crate::due_cache::DueCache;
 use crate::edits::{MoveTo, Retry, SetState};
 use crate::find::find;
 use crate::message_index::MessageIndex;
+use crate::ready_cache::ReadyCache;
 use crate::row_room::RowRoom;
 use payload_records::Name;
 use queue_rows::{MsgRow, SlotRow, SlotState};
 use row_tree::{Edit, Tree};
 use std::marker::Model;
 
-/// Messages, with memory for so many more, and an index of them by their numbers. Contracts see the messages and
-/// that count.
+/// Messages, with memory for so many more, and indexes of them: by their numbers, of their ready slots, and of what is due.
+/// Contracts see the messages and that count. A method that needs no memory lets the indexes of ready slots and of what is due go where
+/// it finds none for their rows.
 #[derive(Drop)]
 pub(crate) struct OpenMessages {
     rows: Tree<MsgRow>,
     index: MessageIndex,
+    caches: Caches,
 }
 
 impl Model for OpenMessages {
-    ghost use Rattle.std.specs.Prelude.{◌≡◌};
+    ghost use Rattle.std.specs.Prelude.{◌≡◌, length};
     ghost use Rattle.queue_rows.specs.declared.rows.MsgRow.{MsgRow};
     ghost use Rattle.message_store.specs.Messages.{ids_of};
     ghost use Rattle.message_store.specs.Rows.{Rows};
@@ -33,7 +42,53 @@ impl Model for OpenMessages {
 
     ghost view = { λ m. record { items = m.rows; room = m.index.room } };
 
-    ghost invariant = { λ m. m.index.ids ≡ ids_of m.rows };
+    ghost use Rattle.message_store.specs.Caches.{AreOf};
+    ghost use Rattle.message_store.specs.Stamped.{AreStamps};
+
+    ghost invariant = { λ m. (m.index.ids ≡ ids_of m.rows)
+        × AreStamps (length m.index.ids) m.index.stamps
+        × AreOf m.index.stamps m.rows m.caches };
+}
+
+// The rows of the message at an index, which stands under the stamp, go.
+fn take_rows(ready: &mut ReadyCache, rows: &Tree<MsgRow>, at: usize, stamp: u64)
+    ensures { IfSome (slice_get rows.now at) (λ m. Forgets stamp m ready.old.slots ready.new.slots) }
+{
+    if let Some(message) = rows.get(at) {
+        ready.remove(stamp, message);
+    }
+}
+
+// The rows of the message at an index, which stands under the stamp, come.
+fn put_rows(ready: &mut ReadyCache, rows: &Tree<MsgRow>, at: usize, stamp: u64)
+    ensures { IfSome (slice_get rows.now at) (λ m. Notes stamp m ready.old.slots ready.new.slots) }
+{
+    if let Some(message) = rows.get(at) {
+        ready.put(stamp, message);
+    }
+}
+
+// What is due of the message at an index goes.
+fn take_due(due: &mut DueCache, rows: &Tree<MsgRow>, index: &MessageIndex, at: usize)
+    requires { index.now.ids ≡ ids_of rows.now }
+    ensures keeps { due.new.keeps ≡ due.old.keeps }
+    ensures rows { let keeps = keeps_in due.old.keeps in
+        IfDue keeps rows.now due.old.slots → IfDue keeps (remove rows.now at) due.new.slots }
+{
+    if let Some(message) = rows.get(at) {
+        due.remove(message, index.is_alone(message.id));
+    }
+}
+
+// What is due of the message at an index comes.
+fn put_due(due: &mut DueCache, rows: &Tree<MsgRow>, at: usize)
+    ensures keeps { due.new.keeps ≡ due.old.keeps }
+    ensures rows { let keeps = keeps_in due.old.keeps in
+        IfSome (slice_get rows.now at) (λ m. Gains keeps m due.old.slots due.new.slots) }
+{
+    if let Some(message) = rows.get(at) {
+        due.put(message);
+    }
 }
 
 fn take_out(rows: &mut Tree<MsgRow>, at: usize)
@@ -44,20 +99,28 @@ fn take_out(rows: &mut Tree<MsgRow>, at: usize)
 }
 
 impl OpenMessages {
-    /// The messages of tables, with their index. It takes no memory.
-    pub(crate) fn of(rows: Tree<MsgRow>, index: MessageIndex) -> OpenMessages
-        requires { index.ids ≡ ids_of rows }
+    /// The messages of tables, with their indexes. It takes no memory.
+    pub(crate) fn of(rows: Tree<MsgRow>, index: MessageIndex, caches: Caches) -> OpenMessages
+        requires ids { index.ids ≡ ids_of rows }
+        requires stamped { AreStamps (length index.ids) index.stamps }
+        requires caches { AreOf index.stamps rows caches }
         ensures { result ≡ record { items = rows; room = index.room } }
     {
-        OpenMessages { rows, index }
+        OpenMessages {
+            rows,
+            index,
+            caches,
+        }
     }
 
-    /// The messages and their index. It takes no memory.
-    pub(crate) fn close(self) -> (Tree<MsgRow>, MessageIndex)
+    /// The messages and their indexes. It takes no memory.
+    pub(crate) fn close(self) -> (Tree<MsgRow>, MessageIndex, Caches)
         ensures rows { result.0 ≡ self.items }
-        ensures index { result.1.ids ≡ ids_of self.items }
+        ensures ids { result.1.ids ≡ ids_of self.items }
+        ensures stamped { AreStamps (length result.1.ids) result.1.stamps }
+        ensures caches { AreOf result.1.stamps self.items result.2 }
     {
-        (self.rows, self.index)
+        (self.rows, self.index, self.caches)
     }
 
     /// Where the first message of that number stands. It does not go over the messages.
@@ -75,12 +138,14 @@ impl OpenMessages {
         find(&self.rows, &self.index, id)
     }
 
-    /// Puts a message last. It takes no memory.
+    /// Puts a message last. It needs no memory.
     pub(crate) fn push(&mut self, row: MsgRow)
         requires { 0 < self.old.room }
         ensures { self.new ≡ record { items = self.old.items ++ row ∷ []; room = self.old.room - 1 } }
     {
-        let spare = self.index.push(row.id);
+        let (spare, stamp) = self.index.push(row.id);
+        self.caches.ready.put(stamp, &row);
+        self.caches.due.put(&row);
         self.rows.push(row, spare);
     }
 
@@ -97,6 +162,9 @@ impl OpenMessages {
         requires { at < length self.old.items }
         ensures { self.new ≡ record self.old { items = remove self.old.items at } }
     {
+        let stamp = self.index.stamp_at(at);
+        take_rows(&mut self.caches.ready, &self.rows, at, stamp);
+        take_due(&mut self.caches.due, &self.rows, &self.index, at);
         self.index.remove(at);
         take_out(&mut self.rows, at);
     }
@@ -132,11 +200,24 @@ impl OpenMessages {
         ensures { self.new ≡ with_changed id (E.edited edit) self.old }
     {
         if let Some(at) = self.position(id) {
-            self.rows.edit(at, edit);
+            self.edit_at(at, edit);
         }
     }
 
-    /// The slot of the first message of that number is in that state from a moment on. It takes no memory.
+    fn edit_at<E: Edit<MsgRow> + Drop>(&mut self, at: usize, edit: E)
+        requires within { at < length self.old.items }
+        requires id { KeepsId (E.edited edit) }
+        ensures { self.new ≡ record self.old { items = edit_at self.old.items at (E.edited edit) } }
+    {
+        let stamp = self.index.stamp_at(at);
+        take_rows(&mut self.caches.ready, &self.rows, at, stamp);
+        take_due(&mut self.caches.due, &self.rows, &self.index, at);
+        self.rows.edit(at, edit);
+        put_rows(&mut self.caches.ready, &self.rows, at, stamp);
+        put_due(&mut self.caches.due, &self.rows, at);
+    }
+
+    /// The slot of the first message of that number is in that state from a moment on. It needs no memory.
     pub(crate) fn set_state(&mut self, id: u64, slot: u64, state: SlotState, at: u64)
         ensures { self.new ≡ with_changed id (with_slot slot (in_state state at)) self.old }
     {
@@ -144,7 +225,7 @@ impl OpenMessages {
     }
 
     /// The slot of the first message of that number was rolled back so often; it waits, or is ready at once. It
-    /// takes no memory.
+    /// needs no memory.
     pub(crate) fn set_retried(
         &mut self,
         id: u64,
@@ -167,7 +248,7 @@ impl OpenMessages {
     }
 
     /// The first message of that number stands in that queue, if there is one, with slot 0 behind its slots. It
-    /// takes no memory.
+    /// needs no memory.
     pub(crate) fn move_to(&mut self, id: u64, queue: Name, at: u64, room: RowRoom<SlotRow>)
         requires { IfSome (find (λ m. m.id == id) self.old.items) (λ m. length m.slots < room) }
         ensures { self.new ≡ with_changed id (moved_to queue at) self.old }

@@ -1,32 +1,36 @@
 // The tables of a database, and the memory for a commit to come.
-ghost use Rattle.std.specs.Prelude.{◌≡◌, All, OnOk, OnErr, option_copied};
+ghost use Rattle.std.specs.Prelude.{◌≡◌, IfOk, OnOk, OnErr, option_copied};
 ghost use Rattle.queue_rows.specs.Rows.{find_message};
 ghost use Rattle.queue_rows.specs.Tables.{empty_tables, after};
 ghost use Rattle.queue_rows.specs.World.{committed_tables};
-ghost use Rattle.message_store.specs.Numbers.{HasNumbers};
-ghost use Rattle.message_store.specs.Stored.{IsPreparedFor};
+ghost use Rattle.message_store.specs.Stored.{IsPreparedFor, IsCommitFor};
 
 use crate::apply::apply;
-use crate::beside::Beside;
+use crate::caches::Caches;
 use crate::copies::copies_of;
-use crate::find::find;
-use crate::message_index::MessageIndex;
-use crate::numbers::check_numbers;
-use crate::open::OpenTables;
-use crate::slot_rooms::slot_rooms;
+use crate::due_cache::DueCache;
+use crate::kept_tables::KeptTables;
+use due_index::DueIndex;
+use due_slots::DueTables;
 use exception_queues::MessageTables;
+use message_choice::{Choice, ChoosesMessages, Pick, choose, choose_by_walk};
 use payload_records::List;
 use queue_rows::{Change, Commit, MsgRow, Tables};
+use row_locks::RowLocks;
+use sort_index::Steps;
 use std::alloc::{AllocError, Global};
 use std::marker::Model;
 use std::mem;
+use std::sync::ledger::Ledger;
 
-/// The tables of a database, an index of their messages by their numbers, and the memory that a commit was prepared with. Contracts
-/// see the tables of the definitions, and that memory.
+/// The tables of a database, indexes of their messages by their numbers, by their ready slots and by what is due, and the memory that
+/// a commit was prepared with. Contracts see the tables of the definitions, and that memory.
 #[derive(Drop)]
 pub struct PreparedStore {
-    tables: Tables,
-    beside: Beside,
+    kept: KeptTables,
+    caches: Caches,
+    /// Whether queues may keep messages for another time than the index of what is due was made for.
+    is_stale: bool,
 }
 
 impl Model for PreparedStore {
@@ -38,13 +42,16 @@ impl Model for PreparedStore {
 
     ghost coded = { Prim.hlevel (codes, cond.the_row.coded) };
 
-    ghost use Rattle.std.specs.Prelude.{◌≡◌};
-    ghost use Rattle.message_store.specs.Beside.{room_beside};
-    ghost use Rattle.message_store.specs.Messages.{ids_of};
+    ghost use Rattle.message_store.specs.Caches.{AreOf};
 
-    ghost view = { λ s. record { tables = s.tables; room = room_beside s.tables s.beside } };
+    ghost view = { λ s. record { tables = s.kept.tables; room = s.kept.room } };
 
-    ghost invariant = { λ s. s.beside.index.ids ≡ ids_of s.tables.messages };
+    ghost invariant = { λ s. AreOf s.kept.stamps s.kept.tables.messages s.caches };
+}
+
+// Whether some of the changes may be of how long a queue keeps messages.
+fn change_keeps(due: &DueCache, changes: &List<Change>) -> bool {
+    changes.iter().any(|change| due.is_changed_by(change))
 }
 
 impl PreparedStore {
@@ -53,8 +60,9 @@ impl PreparedStore {
         ensures { result.tables ≡ empty_tables }
     {
         PreparedStore {
-            tables: Tables::new(alloc),
-            beside: Beside::of(alloc, MessageIndex::new(alloc)),
+            kept: KeptTables::new(alloc),
+            caches: Caches::new(alloc),
+            is_stale: false,
         }
     }
 
@@ -62,14 +70,28 @@ impl PreparedStore {
     pub fn tables(&self) -> &Tables
         ensures { result.now ≡ self.now.tables }
     {
-        &self.tables
+        self.kept.tables()
     }
 
     /// The message of that number. It takes no memory, and does not go over the messages.
     pub fn message(&self, id: u64) -> Option<&MsgRow>
         ensures { option_copied result ≡ find_message self.now.tables id }
     {
-        find(&self.tables.messages, &self.beside.index, id)
+        self.kept.message(id)
+    }
+
+    // Makes the indexes anew that were let go, where there is memory for them.
+    fn mend(&mut self, alloc: Global)
+        ensures { self.new ≡ self.old }
+    {
+        if self.caches.ready.slots.is_none() {
+            self.caches.ready = self.kept.ready(alloc);
+        }
+        if self.is_stale || self.caches.due.slots.is_none() {
+            let tables = self.kept.tables();
+            self.caches.due = DueCache::of(&tables.messages, &tables.queues, alloc);
+            self.is_stale = false;
+        }
     }
 
     /// Takes all memory that a commit needs. The tables are as before, also at want of memory; there is none for a message whose
@@ -79,46 +101,59 @@ impl PreparedStore {
         ensures tables { self.new.tables ≡ self.old.tables }
         ensures prepared { OnOk result (IsPreparedFor self.new commit.now.changes) }
     {
-        let changes = &commit.changes;
-        check_numbers(changes)?;
-        self.beside.slots = slot_rooms(&self.tables.messages, &self.beside.index, changes)?;
-        self.beside.reserve(&self.tables, changes)?;
-        Ok(())
+        self.mend(commit.changes.allocator());
+        self.kept.prepare(commit)
     }
 
-    /// Makes the changes of a commit that was prepared, in order, at its moment. It takes no memory.
+    /// Makes the changes of a commit that was prepared, in order, at its moment. It needs no memory: where there is none for the rows of
+    /// an index, the index is let go.
     #[tactic(auto, unfolding(crate::specs::Stored::IsPreparedFor))]
     pub fn apply(&mut self, commit: Commit)
         requires prepared { IsPreparedFor self.old commit.changes }
         ensures { self.new.tables ≡ after self.old.tables commit }
     {
         let alloc = commit.changes.allocator();
-        let tables = mem::replace(&mut self.tables, Tables::new(alloc));
-        let blank = Beside::of(alloc, MessageIndex::new(alloc));
-        let beside = mem::replace(&mut self.beside, blank);
-        let mut open = OpenTables::of(tables, beside);
+        let kept = mem::replace(&mut self.kept, KeptTables::new(alloc));
+        self.is_stale = self.is_stale || change_keeps(&self.caches.due, &commit.changes);
+        let caches = mem::replace(&mut self.caches, Caches::new(alloc));
+        let mut open = kept.open(caches);
         apply(&mut open, commit, alloc);
-        let (tables, beside) = open.close(alloc);
-        self.tables = tables;
-        self.beside = beside;
+        let (kept, caches) = KeptTables::close(open, alloc);
+        self.kept = kept;
+        self.caches = caches;
     }
 
-    /// Makes the changes of a commit at that moment, in order; an empty list is no commit. All memory is taken
-    /// before anything is changed: at want of memory the tables are as before.
-    pub fn commit(&mut self, changes: &List<Change>, moment: u64) -> Result<(), AllocError>
-        requires numbers { All HasNumbers changes.now }
-        ensures ok { OnOk result (self.new.tables ≡ committed_tables self.old.tables changes.now moment) }
-        ensures err { OnErr result (self.new.tables ≡ self.old.tables) }
+    /// Takes all memory for a commit of these changes at that moment, which is what is given; an empty list is no commit. The tables
+    /// are as before, also at want of memory; there is none for a message whose number or group is 2^63 or more.
+    pub fn prepared(
+        &mut self,
+        changes: &List<Change>,
+        moment: u64,
+    ) -> Result<Option<Commit>, AllocError>
+        ensures tables { self.new.tables ≡ self.old.tables }
+        ensures commit { IfOk result (IsCommitFor self.new changes.now moment) }
     {
         if changes.is_empty() {
-            return Ok(());
+            return Ok(None);
         }
         let commit = Commit {
             moment,
             changes: copies_of(changes)?,
         };
         self.prepare(&commit)?;
-        self.apply(commit);
+        Ok(Some(commit))
+    }
+
+    /// Makes the changes of a commit at that moment, in order; an empty list is no commit. All memory is taken
+    /// before anything is changed: at want of memory the tables are as before. There is none for a message whose number or
+    /// group is 2^63 or more.
+    pub fn commit(&mut self, changes: &List<Change>, moment: u64) -> Result<(), AllocError>
+        ensures ok { OnOk result (self.new.tables ≡ committed_tables self.old.tables changes.now moment) }
+        ensures err { OnErr result (self.new.tables ≡ self.old.tables) }
+    {
+        if let Some(commit) = self.prepared(changes, moment)? {
+            self.apply(commit);
+        }
         Ok(())
     }
 }
@@ -132,5 +167,31 @@ impl MessageTables for PreparedStore {
 
     fn message(&self, id: u64) -> Option<&MsgRow> {
         self.message(id)
+    }
+}
+
+impl ChoosesMessages for PreparedStore {
+    fn choose<'a, L: Ledger>(
+        &'a self,
+        locks: &RowLocks,
+        actor: u32,
+        pick: &Pick<'_>,
+        steps: &mut Steps<L>,
+    ) -> Choice<'a> {
+        let messages = &self.kept.tables().messages;
+        match &self.caches.ready.slots {
+            Some(ready) => choose(&self.kept, ready.index(), locks, actor, pick, steps),
+            None => choose_by_walk(messages, locks, actor, pick, steps),
+        }
+    }
+}
+
+impl DueTables for PreparedStore {
+    fn due_rows(&self) -> Option<&DueIndex> {
+        self.caches.due.index(self.kept.tables())
+    }
+
+    fn rank_of(&self, id: u64) -> Option<usize> {
+        self.kept.rank_of(id)
     }
 }

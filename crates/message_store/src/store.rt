@@ -1,16 +1,21 @@
 // The tables of a database.
-ghost use Rattle.std.specs.Prelude.{◌≡◌, All, OnOk, OnErr, option_copied};
+ghost use Rattle.std.specs.Prelude.{◌≡◌, OnOk, OnErr, option_copied};
 ghost use Rattle.queue_rows.specs.Rows.{find_message};
 ghost use Rattle.queue_rows.specs.Tables.{empty_tables};
 ghost use Rattle.queue_rows.specs.World.{committed_tables};
-ghost use Rattle.message_store.specs.Numbers.{HasNumbers};
 
 use crate::PreparedStore;
+use due_index::DueIndex;
+use due_slots::DueTables;
 use exception_queues::MessageTables;
+use message_choice::{Choice, ChoosesMessages, Pick};
 use payload_records::List;
 use queue_rows::{Change, MsgRow, Tables};
+use row_locks::RowLocks;
+use sort_index::Steps;
 use std::alloc::{AllocError, Global};
 use std::marker::Model;
+use std::sync::ledger::Ledger;
 
 /// The tables of a database, for those who commit in one call and need not know of memory. Contracts see the tables of the
 /// definitions.
@@ -56,9 +61,9 @@ impl Store {
     }
 
     /// Makes the changes of a commit at that moment, in order; an empty list is no commit. All memory is taken
-    /// before anything is changed: at want of memory the tables are as before.
+    /// before anything is changed: at want of memory the tables are as before. There is none for a message whose number or
+    /// group is 2^63 or more.
     pub fn commit(&mut self, changes: &List<Change>, moment: u64) -> Result<(), AllocError>
-        requires numbers { All HasNumbers changes.now }
         ensures ok { OnOk result (self.new ≡ committed_tables self.old changes.now moment) }
         ensures err { OnErr result (self.new ≡ self.old) }
     {
@@ -75,5 +80,27 @@ impl MessageTables for Store {
 
     fn message(&self, id: u64) -> Option<&MsgRow> {
         self.message(id)
+    }
+}
+
+impl ChoosesMessages for Store {
+    fn choose<'a, L: Ledger>(
+        &'a self,
+        locks: &RowLocks,
+        actor: u32,
+        pick: &Pick<'_>,
+        steps: &mut Steps<L>,
+    ) -> Choice<'a> {
+        self.inner.choose(locks, actor, pick, steps)
+    }
+}
+
+impl DueTables for Store {
+    fn due_rows(&self) -> Option<&DueIndex> {
+        self.inner.due_rows()
+    }
+
+    fn rank_of(&self, id: u64) -> Option<usize> {
+        self.inner.rank_of(id)
     }
 }

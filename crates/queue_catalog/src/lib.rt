@@ -13,5 +13,5 @@ mod tables;
 
 pub use fault::CatalogFault;
 pub use judging::judge;
-pub use lookup::find_sub;
+pub use lookup::{exception_name, find_sub};
 pub use removal::is_slot_of;

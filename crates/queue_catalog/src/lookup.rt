@@ -9,8 +9,8 @@ use payload_records::Name;
 use queue_rows::{QueueRow, ScheduleRow, SubRow, TableRow, Tables};
 use std::alloc::AllocError;
 
-/// The name of a table's default exception queue.
-pub(crate) fn exception_name(table: &Name) -> Result<Name, AllocError>
+/// The name of the default exception queue of a table. Err is want of memory alone.
+pub fn exception_name(table: &Name) -> Result<Name, AllocError>
     ensures { IfOk result (λ name. name ≡ exception_name table.now) }
 {
     table.with_suffix("_e")

@@ -1,5 +1,2 @@
-pub mod Committing
 pub mod Course
 pub mod Each
-pub mod Keeping
-pub mod Retrying

@@ -4,4 +4,3 @@ pub mod Retries
 pub mod Running
 pub mod Stamped
 pub mod States
-pub mod Within

@@ -5,7 +5,6 @@ ghost use Rattle.queue_rows.specs.Commits.{commit_of};
 ghost use Rattle.sessions.specs.Numbers.{IsLowest, IsPendable};
 ghost use Rattle.sessions.specs.Running.{AreEnoughFor, is_addition};
 ghost use Rattle.sessions.specs.Stamped.{changes_at};
-ghost use Rattle.sessions.specs.Within.{CommitStaysWithin};
 
 use crate::SessionState;
 use crate::completed::{Stamp, change_of};
@@ -91,8 +90,7 @@ pub fn changes_of<T: MessageTables>(
     requires count { length pending.now < 2 ^ 61 }
     requires lowest { All (IsLowest (2 ^ 62)) (T.tables tables.now).queues }
     requires numbers { All IsPendable pending.now }
-    ensures changes { IfOk result (λ it. it ≡ commit_of (T.tables tables.now) moment pending.now) }
-    ensures within { CommitStaysWithin (T.tables tables.now) pending.now result }
+    ensures { IfOk result (λ it. it ≡ commit_of (T.tables tables.now) moment pending.now) }
 {
     let rows = tables.tables();
     let stamp = Stamp {
@@ -113,8 +111,7 @@ pub fn commit_changes<T: MessageTables>(
     requires count { length session.now.pending < 2 ^ 61 }
     requires lowest { All (IsLowest (2 ^ 62)) (T.tables tables.now).queues }
     requires numbers { All IsPendable session.now.pending }
-    ensures changes { IfOk result (λ it. it ≡ commit_of (T.tables tables.now) moment session.now.pending) }
-    ensures within { CommitStaysWithin (T.tables tables.now) session.now.pending result }
+    ensures { IfOk result (λ it. it ≡ commit_of (T.tables tables.now) moment session.now.pending) }
 {
     changes_of(tables, &session.pending, moment)
 }

@@ -10,4 +10,4 @@ mod state;
 
 pub use commit::{changes_of, commit_changes};
 pub use rollback::rollback_changes;
-pub use state::{Effect, PositionMove, SessionState, Verdict};
+pub use state::{Effect, PositionMove, SessionState, Untold, Verdict};

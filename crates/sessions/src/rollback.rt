@@ -3,7 +3,6 @@ ghost use Rattle.std.specs.Prelude.{◌≡◌, ◌<◌, ◌≤◌, ◌^◌, ◌+
 ghost use Rattle.queue_rows.specs.Transactions.{retry_until, retry_of, rollback_of};
 ghost use Rattle.sessions.specs.Numbers.{IsCountable, AreCountable, IsDelaying};
 ghost use Rattle.sessions.specs.Retries.{expiry_at, retried_at, slot_retried, retried_in, retried_for, retries_of};
-ghost use Rattle.sessions.specs.Within.{RollbackStaysWithin};
 
 use crate::SessionState;
 use exception_queues::{MessageTables, find_queue, settle};
@@ -184,8 +183,7 @@ pub fn rollback_changes<T: MessageTables>(
     requires moment { moment ≤ 2 ^ 62 }
     requires delays { All IsDelaying (T.tables tables.now).queues }
     requires retries { All AreCountable (T.tables tables.now).messages }
-    ensures changes { IfOk result (λ it. it ≡ rollback_of (T.tables tables.now) moment session.now.pending) }
-    ensures within { RollbackStaysWithin (T.tables tables.now) result }
+    ensures { IfOk result (λ it. it ≡ rollback_of (T.tables tables.now) moment session.now.pending) }
 {
     settle(tables, retries_of(tables, &session.pending, moment)?)
 }

@@ -22,10 +22,21 @@ pub struct SessionState {
     pub positions: List<Position>,
     /// The moment since which its next statement waits, where it does.
     pub parked: Option<u64>,
-    /// The number of the call whose reply was not told yet, where there is one.
-    pub untold: Option<u32>,
+    /// The call whose reply was not told yet, where there is one.
+    pub untold: Option<Untold>,
     /// Whether it goes on.
     pub live: bool,
+}
+
+/// A call whose reply was not told yet.
+#[derive(Clone, Copy)]
+pub struct Untold {
+    /// Its number among those of its session, counted from 1.
+    pub number: u32,
+    /// How many commits were made up to it at home.
+    pub home: u64,
+    /// How many commits were made up to it at away.
+    pub away: u64,
 }
 
 /// What a statement does, as values: nothing is changed before these are taken over.

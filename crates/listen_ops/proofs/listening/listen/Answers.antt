@@ -9,8 +9,8 @@ use Rattle.listen_ops.specs.Listened.{IsListen, ServesFirst}
 use Rattle.listen_ops.proofs.Listens.{few_agents, listens-fault, listens-first, listens-no-more, listens-on}
 use Rattle.listen_ops.proofs.listening.listen.Goals as goal
 
-pub returns-in-Some : goal.returns-in-Some
-returns-in-Some g c =
+pub returns-in-Some-clause-means : goal.returns-in-Some-clause-means
+returns-in-Some-clause-means g c =
     let t = g.T.MessageTables.tables c.args.store.now in
     let ask = c.args.ask.now in
     let fault : agents_fault t ask.agents ≡ Some c.in-Some.reply = sym (c.in-Some.ensures ∙ ap (λ (x : Tables). agents_fault x ask.agents) c.tables.ensures) in
@@ -20,8 +20,8 @@ returns-in-Some g c =
 pub served-requires-clause-few : goal.served-requires-clause-few
 served-requires-clause-few g c = few_agents c.args.ask.now c.requires.within
 
-pub returns-in-Some-2 : goal.returns-in-Some-2
-returns-in-Some-2 g c =
+pub returns-in-Some-2-clause-means : goal.returns-in-Some-2-clause-means
+returns-in-Some-2-clause-means g c =
     let t = g.T.MessageTables.tables c.args.store.now in
     let ask = c.args.ask.now in
     let fault : agents_fault t ask.agents ≡ None = sym (c.in_default.ensures ∙ ap (λ (x : Tables). agents_fault x ask.agents) c.tables.ensures) in
@@ -29,8 +29,8 @@ returns-in-Some-2 g c =
     subst (λ (e : Effect). IsListen t c.args.locks.now c.args.actor c.args.session.now ask c.args.moment e) (sym c.answered-in-Some-2.ensures)
     (listens-first t c.args.locks.now c.args.actor c.args.session.now ask c.args.moment c.in-Some-2.reply fault first)
 
-pub returns-then-still_waits : goal.returns-then-still_waits
-returns-then-still_waits g c =
+pub returns-then-still_waits-clause-means : goal.returns-then-still_waits-clause-means
+returns-then-still_waits-clause-means g c =
     let t = g.T.MessageTables.tables c.args.store.now in
     let ask = c.args.ask.now in
     let fault : agents_fault t ask.agents ≡ None = sym (c.in_default.ensures ∙ ap (λ (x : Tables). agents_fault x ask.agents) c.tables.ensures) in
@@ -38,8 +38,8 @@ returns-then-still_waits g c =
     subst (λ (e : Effect). IsListen t c.args.locks.now c.args.actor c.args.session.now ask c.args.moment e) (sym (c.plain.ensures ∙ ap (plain_effect Park) c.new.ensures))
     (listens-on t c.args.locks.now c.args.actor c.args.session.now ask c.args.moment fault first (λ s e. sym c.if-still_waits.true ∙ c.still_waits.ensures s e))
 
-pub returns-else-still_waits : goal.returns-else-still_waits
-returns-else-still_waits g c =
+pub returns-else-still_waits-clause-means : goal.returns-else-still_waits-clause-means
+returns-else-still_waits-clause-means g c =
     let t = g.T.MessageTables.tables c.args.store.now in
     let ask = c.args.ask.now in
     let fault : agents_fault t ask.agents ≡ None = sym (c.in_default.ensures ∙ ap (λ (x : Tables). agents_fault x ask.agents) c.tables.ensures) in

@@ -1,9 +1,9 @@
-use Rattle.std.proofs.Common.{◌<◌, ◌+◌, [], ◌∷◌, refl, length, length-append, nat_eq, arith, sym, ap, subst}
+use Rattle.std.proofs.Common.{◌<◌, ◌+◌, [], ◌∷◌, ◌++◌, refl, length, length-append, nat_eq, arith, sym, ap, subst}
 use Rattle.std.specs.HashMap.{get}
 use Rattle.std.proofs.lemmas.List.Quantifiers.{all_pairs_push}
 use Rattle.message_store.specs.Stamps.{AreRising, AreBelow, TellsStamps}
 use Rattle.message_store.specs.declared.entry.Entry.{Entry}
-use Rattle.message_store.proofs.StampLemmas.{pushed, below_pushed}
+use Rattle.message_store.proofs.StampLemmas.{are_stamps, pushed, below_pushed}
 use Rattle.message_store.proofs.message_index.MessageIndex.push.Goals as goal
 
 pub invariant_of-self : goal.invariant_of-self
@@ -25,3 +25,10 @@ invariant_of-self c =
       omega (arith, length-append es (e ∷ [])),
       omega arith,
     )
+
+pub returns-clause-stamped : goal.returns-clause-stamped
+returns-clause-stamped c =
+    let i = c.self.inside in
+    let e : Entry = record { id = c.args.id; stamp = i.next } in
+    let rising = all_pairs_push (λ earlier later. earlier.stamp < later.stamp) i.entries e c.self.invariant.0 c.self.invariant.1 in
+    rw c.push.ensures (are_stamps (i.entries ++ e ∷ []) rising)

@@ -1,12 +1,13 @@
 use Rattle.std.proofs.Common.{◌<◌, length, nat_eq, arith, sym, ap, subst}
 use Rattle.std.specs.HashMap.{get}
+use Rattle.std.specs.Prelude.{remove}
 use Rattle.std.proofs.lemmas.List.{length-map}
 use Rattle.std.proofs.lemmas.List.Edits.{length-remove}
 use Rattle.std.proofs.lemmas.List.Quantifiers.{all_pairs_remove}
 use Rattle.std.proofs.lemmas.Option.{get_or_from_slice_get}
 use Rattle.message_store.specs.Stamps.{AreRising, AreBelow, TellsStamps}
 use Rattle.message_store.specs.declared.entry.Entry.{Entry}
-use Rattle.message_store.proofs.StampLemmas.{ids_removed, removed, below_removed}
+use Rattle.message_store.proofs.StampLemmas.{are_stamps, ids_removed, removed, stamps_removed, below_removed}
 use Rattle.message_store.proofs.message_index.MessageIndex.remove.Goals as goal
 
 pub invariant_of-self : goal.invariant_of-self
@@ -33,3 +34,13 @@ invariant_of-self c =
 
 pub returns-clause-ids : goal.returns-clause-ids
 returns-clause-ids c = rw c.remove-spare.ensures.rest (rw (← c.self.view_is) (ids_removed c.self.inside.entries c.args.at))
+
+pub returns-clause-stamps : goal.returns-clause-stamps
+returns-clause-stamps c = rw c.remove-spare.ensures.rest (rw (← c.self.view_is) (stamps_removed c.self.inside.entries c.args.at))
+
+pub returns-clause-stamped : goal.returns-clause-stamped
+returns-clause-stamped c =
+    let es = c.self.inside.entries in
+    let at = c.args.at in
+    let within : at < length es = omega (arith, c.requires, ap (λ v. length v.ids) c.self.view_is, length-map es (λ (e : Entry). e.id)) in
+    rw c.remove-spare.ensures.rest (are_stamps (remove es at) (all_pairs_remove (λ earlier later. earlier.stamp < later.stamp) es at within c.self.invariant.0))

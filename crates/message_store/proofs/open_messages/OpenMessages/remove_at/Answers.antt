@@ -1,9 +1,22 @@
-use Rattle.std.proofs.Common.{ap, ◌∙◌}
+use Rattle.std.proofs.Common.{ℕ, ◌<◌, length, List, ap, ◌∙◌, sym, subst}
 use Rattle.std.specs.Prelude.{remove}
+use Rattle.queue_rows.specs.declared.rows.MsgRow.{MsgRow}
+use Rattle.message_store.specs.DueKept.{IfDue, keeps_in}
+use Rattle.message_store.specs.declared.due_cache.KeepRow.{KeepRow}
+use Rattle.message_store.specs.Rows.{Rows}
 use Rattle.message_store.proofs.MessageLemmas.{ids_removed}
+use Rattle.message_store.proofs.IndexLemmas.{taken}
 use Rattle.message_store.proofs.open_messages.OpenMessages.remove_at.Goals as goal
 
 pub invariant_of-self : goal.invariant_of-self
 invariant_of-self c =
     let at = c.args.at in
-    rw c.take_out.ensures (c.remove.ensures.ids ∙ ap (λ ids. remove ids at) c.self.invariant ∙ ids_removed c.self.inside.rows at)
+    let m = c.self.inside in
+    let within = subst (λ (n : ℕ). at < n) (sym (ap (λ (r : Rows MsgRow). length r.items) c.self.view_is)) c.requires in
+    let ready = taken m.index.ids m.index.stamps m.rows at c.stamp_at-stamp.result m.caches.ready.slots c.take_rows.new.ready.slots
+    c.self.invariant.0 c.self.invariant.1 within c.stamp_at-stamp.ensures c.take_rows.ensures c.self.invariant.2.ready in
+    let due = subst (λ (k : List KeepRow). IfDue (keeps_in k) (remove m.rows at) c.take_due.new.due.slots) (sym c.take_due.ensures.keeps) (c.take_due.ensures.rows c.self.invariant.2.due) in (
+      rw c.take_out.ensures (c.remove.ensures.ids ∙ ap (λ ids. remove ids at) c.self.invariant.0 ∙ ids_removed m.rows at),
+      c.remove.ensures.stamped,
+      record { ready = rw (c.take_out.ensures, c.remove.ensures.stamps) ready; due = rw c.take_out.ensures due },
+    )

@@ -1,0 +1,42 @@
+-- Messages under the stamps of an index, and the index of their ready slots, where it is kept.
+use Rattle.std.specs.Prelude.{◌≡◌, ◌<◌, ℕ, List, [], ◌∷◌, Option, Some, IfSome, insert, length, remove, slice_get}
+use Rattle.std.specs.List.{AllByRecursion}
+use Rattle.queue_rows.specs.declared.rows.MsgRow.{MsgRow}
+use Rattle.choice_laws.specs.Entries.{Entry, AreRising}
+use Rattle.message_choice.specs.Indexed.{IndexesReady}
+use Rattle.ready_slots.specs.Edits.{entry}
+use Rattle.sort_index.specs.declared.group.Group.{Group}
+
+-- each number is less than all that follow it
+abbrev pub Rise : List ℕ → Type 0
+Rise [] = Unit {0}
+Rise (n ∷ ns) = AllByRecursion (λ later. n < later) ns × Rise ns
+
+-- so many stamps, which rise
+pub record AreStamps (count : ℕ) (stamps : List ℕ) : Type 0 where
+  pub rise : Rise stamps
+  pub long : length stamps ≡ count
+
+-- each message under the stamp at its place
+abbrev pub entries_of : List ℕ → List MsgRow → List Entry
+entries_of [] messages = []
+entries_of (stamp ∷ stamps) [] = []
+entries_of (stamp ∷ stamps) (m ∷ messages) = entry stamp m ∷ entries_of stamps messages
+
+-- where there is an index, it is that of the messages
+abbrev pub IfReady : List Entry → Option (List Group) → Type 0
+IfReady entries index = IfSome index (IndexesReady entries)
+
+-- ---- edits of it
+
+-- the message goes that stood under the stamp
+abbrev pub Forgets : ℕ → MsgRow → (before after : Option (List Group)) → Type 0
+Forgets stamp m before after = (entries : List Entry) (at : ℕ)
+    → AreRising entries → slice_get entries at ≡ Some (entry stamp m)
+    → IfReady entries before → IfReady (remove entries at) after
+
+-- the message comes under the stamp, wherever stamps rise with it
+abbrev pub Notes : ℕ → MsgRow → (before after : Option (List Group)) → Type 0
+Notes stamp m before after = (entries : List Entry) (at : ℕ)
+    → AreRising (insert entries at (entry stamp m))
+    → IfReady entries before → IfReady (insert entries at (entry stamp m)) after

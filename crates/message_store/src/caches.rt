@@ -1,0 +1,28 @@
+// The indexes beside the messages that are let go where they find no memory.
+ghost use Rattle.std.specs.Prelude.{[]};
+ghost use Rattle.message_store.specs.Caches.{AreOf};
+
+use crate::due_cache::DueCache;
+use crate::ready_cache::ReadyCache;
+use std::alloc::Global;
+
+/// The index of ready slots and that of what is due, each where it is kept.
+#[derive(Drop)]
+pub(crate) struct Caches {
+    /// The index of ready slots.
+    pub(crate) ready: ReadyCache,
+    /// The index of what is due.
+    pub(crate) due: DueCache,
+}
+
+impl Caches {
+    /// Those of no messages. It takes no memory.
+    pub(crate) fn new(alloc: Global) -> Caches
+        ensures { AreOf [] [] result }
+    {
+        Caches {
+            ready: ReadyCache::new(alloc),
+            due: DueCache::new(alloc),
+        }
+    }
+}

@@ -1,0 +1,138 @@
+// The tables of a database, with what is kept beside them.
+ghost use Rattle.std.specs.Prelude.{◌≡◌, ◌==◌, OnOk, [], length, option_copied, position};
+ghost use Rattle.choice_laws.specs.Entries.{message_at};
+ghost use Rattle.queue_rows.specs.Rows.{find_message};
+ghost use Rattle.queue_rows.specs.Tables.{empty_tables};
+ghost use Rattle.message_store.specs.Caches.{AreOf};
+ghost use Rattle.message_store.specs.Open.{held, room_of};
+ghost use Rattle.message_store.specs.Prepared.{AreReady};
+ghost use Rattle.message_store.specs.Stamped.{AreStamps, IfReady, entries_of};
+
+use crate::beside::Beside;
+use crate::caches::Caches;
+use crate::find::find;
+use crate::message_index::MessageIndex;
+use crate::numbers::check_numbers;
+use crate::open::OpenTables;
+use crate::ready_cache::ReadyCache;
+use crate::slot_rooms::slot_rooms;
+use message_choice::StampedMessages;
+use queue_rows::{Commit, MsgRow, Tables};
+use std::alloc::{AllocError, Global};
+use std::marker::Model;
+
+/// The tables of a database, an index of their messages by their numbers, and the memory that a commit was prepared with. Contracts
+/// see the tables, that memory, and the stamps of the messages.
+#[derive(Drop)]
+pub(crate) struct KeptTables {
+    tables: Tables,
+    beside: Beside,
+}
+
+impl Model for KeptTables {
+    ghost use Rattle.std.specs.Coded.{codes};
+    ghost use Rattle.rule_conditions.specs.contracts.condition.Cond as cond;
+    ghost use Rattle.message_store.specs.Kept.{Kept};
+
+    ghost Value = { Kept };
+
+    ghost coded = { Prim.hlevel (codes, cond.the_row.coded) };
+
+    ghost use Rattle.std.specs.Prelude.{◌≡◌, length};
+    ghost use Rattle.message_store.specs.Beside.{room_beside};
+    ghost use Rattle.message_store.specs.Messages.{ids_of};
+    ghost use Rattle.message_store.specs.Stamped.{AreStamps};
+
+    ghost view = { λ k. record {
+      tables = k.tables;
+      room = room_beside k.tables k.beside;
+      stamps = k.beside.index.stamps;
+    } };
+
+    ghost invariant = { λ k. (k.beside.index.ids ≡ ids_of k.tables.messages)
+        × AreStamps (length k.beside.index.ids) k.beside.index.stamps };
+}
+
+impl KeptTables {
+    /// Tables in which nothing was committed yet. It takes no memory.
+    pub(crate) fn new(alloc: Global) -> KeptTables
+        ensures tables { result.tables ≡ empty_tables }
+        ensures stamps { result.stamps ≡ [] }
+    {
+        KeptTables {
+            tables: Tables::new(alloc),
+            beside: Beside::of(alloc, MessageIndex::new(alloc)),
+        }
+    }
+
+    /// The tables. It takes no memory.
+    pub(crate) fn tables(&self) -> &Tables
+        ensures tables { result.now ≡ self.now.tables }
+        ensures stamped { AreStamps (length self.now.tables.messages) self.now.stamps }
+    {
+        &self.tables
+    }
+
+    /// The message of that number. It takes no memory, and does not go over the messages.
+    pub(crate) fn message(&self, id: u64) -> Option<&MsgRow>
+        ensures { option_copied result ≡ find_message self.now.tables id }
+    {
+        find(&self.tables.messages, &self.beside.index, id)
+    }
+
+    /// Takes all memory that a commit needs. The tables are as before, also at want of memory.
+    pub(crate) fn prepare(&mut self, commit: &Commit) -> Result<(), AllocError>
+        ensures tables { self.new.tables ≡ self.old.tables }
+        ensures stamps { self.new.stamps ≡ self.old.stamps }
+        ensures prepared { OnOk result (AreReady self.new.tables self.new.room commit.now.changes) }
+    {
+        let changes = &commit.changes;
+        check_numbers(changes)?;
+        self.beside.slots = slot_rooms(&self.tables.messages, &self.beside.index, changes)?;
+        self.beside.reserve(&self.tables, changes)?;
+        Ok(())
+    }
+
+    /// Where the message of that number stands among all. It takes no memory.
+    pub(crate) fn rank_of(&self, id: u64) -> Option<usize>
+        ensures { result ≡ position (λ m. m.id == id) self.now.tables.messages }
+    {
+        self.beside.index.position(id)
+    }
+
+    /// The index of the ready slots of the messages, where there is memory for it.
+    pub(crate) fn ready(&self, alloc: Global) -> ReadyCache
+        ensures { IfReady (entries_of self.now.stamps self.now.tables.messages) result.slots }
+    {
+        ReadyCache::of(&self.tables.messages, &self.beside.index, alloc)
+    }
+
+    /// The tables, opened, with the indexes of their messages. It takes no memory.
+    pub(crate) fn open(self, caches: Caches) -> OpenTables
+        requires { AreOf self.stamps self.tables.messages caches }
+        ensures held { held result ≡ self.tables }
+        ensures room { room_of result ≡ self.room }
+    {
+        OpenTables::of(self.tables, self.beside, caches)
+    }
+
+    /// The tables, closed again, and the indexes of their messages. It takes no memory.
+    pub(crate) fn close(opened: OpenTables, alloc: Global) -> (KeptTables, Caches)
+        ensures tables { result.0.tables ≡ held opened }
+        ensures caches { AreOf result.0.stamps result.0.tables.messages result.1 }
+    {
+        let (tables, beside, caches) = opened.close(alloc);
+        (KeptTables { tables, beside }, caches)
+    }
+}
+
+impl StampedMessages for KeptTables {
+    ghost entries = { λ k. entries_of k.stamps k.tables.messages };
+
+    fn message_at(&self, stamp: u64) -> Option<&MsgRow> {
+        match self.beside.index.rank(stamp) {
+            Some(at) => self.tables.messages.get(at),
+            None => None,
+        }
+    }
+}

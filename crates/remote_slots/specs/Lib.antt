@@ -1,0 +1,5 @@
+pub mod Edits
+pub mod Few
+pub mod Putting
+pub mod Remote
+pub mod Searched
