@@ -85,8 +85,8 @@ impl MessageTables for Indexed {
 }
 
 impl DueTables for Indexed {
-    fn due_rows(&self) -> &DueIndex {
-        self.due.index()
+    fn due_rows(&self) -> Option<&DueIndex> {
+        Some(self.due.index())
     }
 
     fn rank_of(&self, id: u64) -> Option<usize> {

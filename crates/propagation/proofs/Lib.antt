@@ -1,3 +1,2 @@
 pub mod Arrivals
 pub mod Delays
-pub mod Least

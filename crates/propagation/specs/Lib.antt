@@ -1,4 +1,3 @@
 pub mod Copies
-pub mod Few
 pub mod Outcomes
 pub mod Sent

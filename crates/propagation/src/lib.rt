@@ -7,7 +7,6 @@ mod copy;
 mod destination;
 mod picking;
 mod schedules;
-mod sendable;
 mod sent;
 
 pub use arrival::{Arriving, arrive};

@@ -1,70 +1,34 @@
-// Which slot is sent: a walk over the schedules and, for each open one, over the messages.
-ghost use Rattle.std.specs.Prelude.{◌≡◌, All, Some, filter, option_copied};
-ghost use Rattle.queue_rows.specs.Dequeueing.{nearer, least};
-ghost use Rattle.queue_rows.specs.Propagating.{can_send_of, pick_by, pick};
-ghost use Rattle.propagation.specs.Few.{HasFewSlots};
+// Which slot is sent: the schedules in their order, and of each open one the message that the tables find.
+ghost use Rattle.std.specs.Prelude.{◌≡◌, All};
+ghost use Rattle.queue_rows.specs.Propagating.{pick_by, pick};
+ghost use Rattle.remote_slots.specs.Few.{HasFewSlots};
 
 use crate::schedules::is_open_at;
-use crate::sendable::{can_send_of, first_to_send};
-use place_keys::compare;
-use queue_rows::{MsgRow, ScheduleRow, Tables};
-use row_tree::Tree;
-
-fn nearer<'a>(best: Option<&'a MsgRow>, message: &'a MsgRow) -> &'a MsgRow
-    ensures { Some result.now ≡ nearer (option_copied best.entry) message.now }
-{
-    match best {
-        Some(best) => {
-            if compare(&message.place, &best.place).is_lt() {
-                message
-            } else {
-                best
-            }
-        }
-        None => message,
-    }
-}
-
-fn least_to_send<'a>(
-    schedule: &ScheduleRow,
-    moment: u64,
-    messages: &'a Tree<MsgRow>,
-) -> Option<&'a MsgRow>
-    requires { All HasFewSlots messages.now }
-    ensures { option_copied result ≡ least (filter (can_send_of schedule.now moment) messages.now) }
-{
-    let mut best: Option<&MsgRow> = None;
-    for message in messages {
-        if can_send_of(schedule, moment, message) {
-            best = Some(nearer(best, message));
-        }
-    }
-    best
-}
+use queue_rows::ScheduleRow;
+use remote_slots::{SendsMessages, first_to_send};
 
 // What the schedule sends, if it is open.
-fn pick_by(schedule: &ScheduleRow, moment: u64, tables: &Tables) -> Option<(u64, u32)>
-    requires { All HasFewSlots tables.now.messages }
-    ensures { result ≡ pick_by tables.now moment schedule.now }
+fn pick_by<T: SendsMessages>(tables: &T, schedule: &ScheduleRow, moment: u64) -> Option<(u64, u32)>
+    requires { All HasFewSlots (T.tables tables.now).messages }
+    ensures { result ≡ pick_by (T.tables tables.now) moment schedule.now }
 {
     if !is_open_at(schedule, moment) {
         return None;
     }
-    let message = least_to_send(schedule, moment, &tables.messages)?;
+    let message = tables.least_to_send(schedule, moment)?;
     let slot = first_to_send(schedule, moment, message)?;
     Some((message.id, slot))
 }
 
 /// The message and the slot that the database sends at that moment, if it has one to send: by the first schedule that has
-/// one, of the message with the least place the first slot. It takes no memory, and goes over all messages for each
-/// schedule that is open.
+/// one, of the message with the least place the first slot. It takes no memory.
 #[tactic(auto, unfolding(queue_rows::specs::Propagating::pick))]
-pub fn pick(tables: &Tables, moment: u64) -> Option<(u64, u32)>
-    requires { All HasFewSlots tables.now.messages }
-    ensures { result ≡ pick tables.now moment }
+pub fn pick<T: SendsMessages>(tables: &T, moment: u64) -> Option<(u64, u32)>
+    requires { All HasFewSlots (T.tables tables.now).messages }
+    ensures { result ≡ pick (T.tables tables.now) moment }
 {
-    for schedule in &tables.schedules {
-        if let Some(found) = pick_by(schedule, moment, tables) {
+    for schedule in &tables.tables().schedules {
+        if let Some(found) = pick_by(tables, schedule, moment) {
             return Some(found);
         }
     }

@@ -1,6 +1,6 @@
 // When a schedule sends, and what a failure makes of it.
 ghost use Rattle.std.specs.Prelude.{◌≡◌, ◌≤◌, ◌%◌, ◌^◌, min, IfOk};
-ghost use Rattle.queue_rows.specs.Propagating.{into_period, lasts, is_open_at, last_sending, has_sent_since, is_last_failure, delayed};
+ghost use Rattle.queue_rows.specs.Propagating.{into_period, lasts, is_open_at, is_last_failure, delayed};
 
 use payload_records::Copied;
 use queue_rows::ScheduleRow;
@@ -48,20 +48,6 @@ pub(crate) fn is_open_at(schedule: &ScheduleRow, moment: u64) -> bool
         && schedule.start <= moment
         && schedule.next <= moment
         && lasts(schedule, moment)
-}
-
-fn last_sending(schedule: &ScheduleRow, moment: u64) -> u64
-    requires { 1 ≤ schedule.now.latency }
-    ensures { result ≡ last_sending schedule.now moment }
-{
-    moment - moment.saturating_sub(schedule.start) % schedule.latency
-}
-
-/// Whether the schedule has sent since that moment.
-pub(crate) fn has_sent_since(schedule: &ScheduleRow, since: u64, moment: u64) -> bool
-    ensures { result ≡ has_sent_since schedule.now since moment }
-{
-    schedule.latency == 0 || since <= last_sending(schedule, moment)
 }
 
 /// Whether one more failure disables the schedule.

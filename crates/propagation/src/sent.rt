@@ -1,12 +1,13 @@
 // What is sent of a slot.
 ghost use Rattle.std.specs.Prelude.{◌≡◌, find, option_copied, option_map};
 ghost use Rattle.queue_rows.specs.Rows.{table_of};
-ghost use Rattle.queue_rows.specs.Propagating.{goes_to, is_schedule_of, dispatch_of_slot, dispatch};
+ghost use Rattle.queue_rows.specs.Propagating.{is_schedule_of, dispatch_of_slot, dispatch};
 ghost use Rattle.propagation.specs.Sent.{dispatch_by};
 
 use exception_queues::{MessageTables, find_queue, find_table};
 use payload_records::Name;
 use queue_rows::{MsgRow, ScheduleRow, SlotRef, SlotRow, TableRow, Tables};
+use remote_slots::goes_to;
 
 /// A slot that is sent, with its message, the message's table, and the schedule by which it goes.
 #[derive(Clone, Copy)]
@@ -19,16 +20,6 @@ pub(crate) struct Sent<'a> {
     pub(crate) table: &'a TableRow,
     /// The schedule.
     pub(crate) schedule: &'a ScheduleRow,
-}
-
-/// Whether that queue of the other database is where the slot goes.
-pub(crate) fn goes_to(to: &Name, slot: &SlotRow) -> bool
-    ensures { result ≡ goes_to to.now slot.now }
-{
-    match &slot.address {
-        Some(address) => *address == *to,
-        None => false,
-    }
 }
 
 fn is_schedule_of(queue: &Name, slot: &SlotRow, schedule: &ScheduleRow) -> bool

@@ -1,7 +1,7 @@
 // The calls, asked where what they require is so.
 ghost use Rattle.std.specs.Prelude.{◌≤◌, All, IfSome, IsSome, IsTrue};
 ghost use Rattle.queue_rows.specs.Propagating.{dispatch};
-ghost use Rattle.propagation.specs.Few.{HasFewSlots};
+ghost use Rattle.remote_slots.specs.Few.{HasFewSlots};
 
 use crate::rows;
 use payload_records::List;

@@ -46,6 +46,11 @@ const EACH_20: Plan = Plan {
     ..FIVE_LONG
 };
 
+const WHOLE_20: Plan = Plan {
+    duration: Some(20),
+    ..EACH_20
+};
+
 const EACH_SECOND: Plan = Plan {
     duration: Some(1),
     period: Some(1),
@@ -76,7 +81,7 @@ const DISABLED: Plan = Plan {
 // The schedule, since when the slot is ready, the moment, and whether the slot is sent then.
 type Time = (Plan, u64, u64, bool);
 
-const TIMES: [Time; 36] = [
+const TIMES: [Time; 39] = [
     (FROM_10, 5, 9, false),
     (FROM_10, 5, 10, true),
     (DISABLED, 5, 10, false),
@@ -94,6 +99,9 @@ const TIMES: [Time; 36] = [
     (EACH_20, 5, 30, true),
     (EACH_20, 5, 34, true),
     (EACH_20, 5, 35, false),
+    (WHOLE_20, 5, 9, false),
+    (WHOLE_20, 5, 29, true),
+    (WHOLE_20, 5, 30, true),
     (EACH_SECOND, 5, 15, true),
     // it sends at 10, 17, 24, 31
     (EACH_7, 3, 10, true),

@@ -135,3 +135,9 @@ pub given_next : {Y : Type 0} (G : ℕ → List Y) (n end : ℕ) → n < end →
 given_next G n end below =
     let more : end - n ≡ suc (end - (n + 1)) = omega arith in
     ap (λ k. flat_map G (range_with_len n k)) more
+
+-- the places that are left, one by one
+pub next_place : (n end : ℕ) → n < end → range_with_len n (end - n) ≡ n ∷ range_with_len (n + 1) (end - (n + 1))
+next_place n end below =
+    let more : end - n ≡ suc (end - (n + 1)) = omega arith in
+    ap (λ k. range_with_len n k) more

@@ -10,7 +10,7 @@ use Rattle.aq_base.specs.declared.DbId.{DbId}
 use Rattle.aq_base.specs.declared.DbId.TheVariants.{Home, Away}
 use Rattle.slot_marks.specs.declared.mark.Mark.{Mark}
 use Rattle.slot_marks.specs.declared.mark.Group.{Group}
-use Rattle.slot_marks.specs.Marks.{SessionMarks, marks_of, is_in_group, has_slot, has_any_group, IsFreeSlot, IsFreeGroup, HasSlot, HasGroup, IsHolder}
+use Rattle.slot_marks.specs.Marks.{SessionMarks, marks_of, is_in_group, has_slot, has_any_group, IsFreeSlot, IsFreeGroup, IsHolder}
 use Rattle.slot_marks.specs.Marks as row
 use Rattle.queue_rows.specs.Session as session
 use Rattle.queue_rows.specs.Session.{Session, is_same_db, holds, marks_slot, marks_group}

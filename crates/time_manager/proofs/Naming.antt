@@ -1,7 +1,7 @@
 -- Of a message that no row at or before the moment names nothing is due.
 use Rattle.std.proofs.Common.{◌≡◌, ◌<◌, ◌+◌, ◌++◌, ◌==◌, ◌^◌, ℕ, zero, suc, Bool, true, false, not, cond, List, [], ◌∷◌, slice_get, length, nat_le, nat_lt, Option, Some, None, refl, sym, ap, ◌∙◌, subst, arith, inl, inr, eq-eqb}
 use Rattle.std.specs.Prelude.{◌||◌, ◌&&◌, filter, find, flat_map, if◌then◌else◌}
-use Rattle.std.specs.List.{list_any, position_or_len, cons_option}
+use Rattle.std.specs.List.{list_any, position_or_len, cons_option, range_with_len}
 use Rattle.std.proofs.lemmas.Bool.{false≢true, true≢false, or_cases, or_left, or_right, and_parts, and_from, eqb-true, not-true, false_from_ne_true, both_ways}
 use Rattle.std.proofs.lemmas.Bool.Decides.{nat_tests}
 use Rattle.std.proofs.lemmas.List.Folds.{find_at}
@@ -10,7 +10,7 @@ use Rattle.due_index.specs.Due.{is_due}
 use Rattle.due_index.specs.declared.row.DueRow.{DueRow}
 use Rattle.due_slots.specs.Named.{is_slot_due, is_purge_due, has_row, NamesDue}
 use Rattle.queue_rows.specs.Rows.{find_message, slot_of}
-use Rattle.queue_rows.specs.Settling.{is_open, is_ready, settled}
+use Rattle.queue_rows.specs.Settling.{is_open, is_ready}
 use Rattle.queue_rows.specs.Distinct.{are_distinct}
 use Rattle.queue_rows.specs.Due.{Watch, is_over, is_left, due_change, due_slot, due_slots, due_purge, is_spent, slot_numbers, watched}
 use Rattle.queue_rows.specs.Valid.{is_same_message}
@@ -19,8 +19,10 @@ use Rattle.queue_rows.specs.declared.rows.MsgRow.{MsgRow}
 use Rattle.queue_rows.specs.declared.rows.SlotRow.{SlotRow}
 use Rattle.queue_rows.specs.declared.change.Change.{Change}
 use Rattle.queue_rows.specs.declared.change.Change.TheVariants as changes
-use Rattle.time_manager.specs.Ranks.{AreDueRanks, rank_of, ranks_of, given}
+use Rattle.time_manager.specs.Own.{own_settling, settled_of}
+use Rattle.time_manager.specs.Ranks.{AreDueRanks, GiveAll, rank_of, ranks_of, given}
 use Rattle.time_manager.proofs.Gathering.{has, has_from, contains_from, rises, gives_all, by_place}
+use Rattle.time_manager.proofs.Owning.{watched_by_own}
 
 -- ---- slots whose time has not come
 
@@ -186,13 +188,25 @@ module _ (w : Watch) (rows : List DueRow) (ranks : List ℕ) (names_due : NamesD
   pub all_purges : w.moment < 2 ^ 64 → flat_map (λ rank. given (due_purge w) (slice_get w.tables.messages rank)) ranks ≡ flat_map (due_purge w) w.tables.messages
   all_purges bound = gathered_all (due_purge w) (λ m known unnamed. quiet_purge w rows names_due m known unnamed bound)
 
--- what is due of the messages at these places, with what it settles, is what is due of all
-pub watched_is : (w : Watch) (t : Tables) (rows : List DueRow) (ranks : List ℕ) → w.tables ≡ t → NamesDue t rows → are_distinct is_same_message t.messages ≡ true
-    → AreDueRanks t.messages rows w.moment ranks → w.moment < 2 ^ 64
-    → settled t (flat_map (λ rank. given (due_slots w) (slice_get w.tables.messages rank)) ranks ++ flat_map (λ rank. given (due_purge w) (slice_get w.tables.messages rank)) ranks) ≡ watched w
-watched_is w t rows ranks same names_due distinct are bound =
+  pub all_settlings : flat_map (λ rank. given (own_settling w) (slice_get w.tables.messages rank)) ranks ≡ flat_map (own_settling w) w.tables.messages
+  all_settlings = gathered_all (own_settling w) (λ m known unnamed.
+      if_either (is_spent w m) (settled_of w.tables (due_slots w m)) (ap (settled_of w.tables) (quiet_slots w rows names_due m known unnamed)))
+
+-- what is due of the messages that rows name is what is due of all
+pub rows_give_all : (w : Watch) (t : Tables) (rows : List DueRow) (ranks : List ℕ) → w.tables ≡ t → NamesDue t rows → are_distinct is_same_message t.messages ≡ true
+    → AreDueRanks t.messages rows w.moment ranks → w.moment < 2 ^ 64 → GiveAll w ranks
+rows_give_all w t rows ranks same names_due distinct are bound =
     let names_own = subst (λ (u : Tables). NamesDue u rows) (sym same) names_due in
     let distinct_own = subst (λ (u : Tables). are_distinct is_same_message u.messages ≡ true) (sym same) distinct in
     let are_own = subst (λ (u : Tables). AreDueRanks u.messages rows w.moment ranks) (sym same) are in
-    ap (λ u. settled u (flat_map (λ rank. given (due_slots w) (slice_get w.tables.messages rank)) ranks ++ flat_map (λ rank. given (due_purge w) (slice_get w.tables.messages rank)) ranks)) (sym same)
-    ∙ (λ i. settled w.tables (all_slots w rows ranks names_own distinct_own are_own i ++ all_purges w rows ranks names_own distinct_own are_own bound i))
+    record { slots = all_slots w rows ranks names_own distinct_own are_own; purges = all_purges w rows ranks names_own distinct_own are_own bound; settlings = all_settlings w rows ranks names_own distinct_own are_own }
+
+-- at all places it is what is due of all
+pub places_give_all : (w : Watch) (ranks : List ℕ) → ranks ≡ range_with_len 0 (length w.tables.messages) → GiveAll w ranks
+places_give_all w ranks is = subst (GiveAll w) (sym is) (record { slots = by_place (due_slots w) w.tables.messages; purges = by_place (due_purge w) w.tables.messages; settlings = by_place (own_settling w) w.tables.messages })
+
+-- what is due of the messages at these places, with what each settles, is what is due of all
+pub watched_is : (w : Watch) (ranks : List ℕ) → are_distinct is_same_message w.tables.messages ≡ true → GiveAll w ranks
+    → (flat_map (λ rank. given (due_slots w) (slice_get w.tables.messages rank)) ranks ++ flat_map (λ rank. given (due_purge w) (slice_get w.tables.messages rank)) ranks)
+    ++ flat_map (λ rank. given (own_settling w) (slice_get w.tables.messages rank)) ranks ≡ watched w
+watched_is w ranks distinct all = (λ i. (all.slots i ++ all.purges i) ++ all.settlings i) ∙ sym (watched_by_own w distinct)

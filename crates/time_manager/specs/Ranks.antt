@@ -1,11 +1,13 @@
 -- Where messages stand, and what is due of those that rows name.
-use Rattle.std.specs.Prelude.{◌==◌, ◌&&◌, ◌↔◌, ℕ, List, [], not, filter, filter_map, position, Contains, Option, Some, None}
+use Rattle.std.specs.Prelude.{◌≡◌, ◌==◌, ◌&&◌, ◌↔◌, ℕ, List, [], not, filter, filter_map, flat_map, position, slice_get, Contains, Option, Some, None}
 use Rattle.std.specs.List.Sorted.{IsStrictlyIncreasing}
 use Rattle.std.specs.Ordering.{is_lt}
 use Rattle.due_index.specs.Due.{due_cmp, due_row, is_due}
 use Rattle.due_index.specs.declared.row.DueRow.{DueRow}
+use Rattle.queue_rows.specs.Due.{Watch, due_purge, due_slots}
 use Rattle.queue_rows.specs.declared.rows.MsgRow.{MsgRow}
 use Rattle.queue_rows.specs.declared.change.Change.{Change}
+use Rattle.time_manager.specs.Own.{own_settling}
 
 -- where the message of that number stands
 abbrev pub rank_of : List MsgRow → ℕ → Option ℕ
@@ -29,3 +31,9 @@ pub record AreDueRanks (messages : List MsgRow) (rows : List DueRow) (moment : �
 abbrev pub given : (MsgRow → List Change) → Option MsgRow → List Change
 given f None = []
 given f (Some m) = f m
+
+-- what is due of the messages at these places, and what each settles, is that of all
+pub record GiveAll (w : Watch) (ranks : List ℕ) : Type 0 where
+  pub slots : flat_map (λ rank. given (due_slots w) (slice_get w.tables.messages rank)) ranks ≡ flat_map (due_slots w) w.tables.messages
+  pub purges : flat_map (λ rank. given (due_purge w) (slice_get w.tables.messages rank)) ranks ≡ flat_map (due_purge w) w.tables.messages
+  pub settlings : flat_map (λ rank. given (own_settling w) (slice_get w.tables.messages rank)) ranks ≡ flat_map (own_settling w) w.tables.messages

@@ -6,13 +6,11 @@ ghost use Rattle.queue_rows.specs.Valid.{is_same_message};
 ghost use Rattle.due_slots.specs.Rows.{HasFewSlots};
 ghost use Rattle.time_manager.specs.Watching.{IsCalmAfter, IsDue, watch_of};
 
-use crate::purges::push_all_purges;
-use crate::ranks::due_ranks;
-use crate::slots::push_all_slots;
+use crate::found::changes_at;
+use crate::ranks::named_ranks;
 use crate::watching::Watching;
 use aq_base::DbId;
 use due_slots::DueTables;
-use exception_queues::settle;
 use payload_records::List;
 use queue_rows::{Change, SlotRef};
 use row_locks::RowLocks;
@@ -27,11 +25,8 @@ fn watched<T: DueTables>(store: &T, watching: &Watching<'_>) -> Result<List<Chan
     ensures { IfOk result (λ changes. changes ≡ watched (watch_of watching.now)) }
 {
     let alloc = watching.tables.seen.allocator();
-    let ranks = due_ranks(store, store.due_rows(), watching.moment, alloc)?;
-    let mut changes = List::new(alloc);
-    push_all_slots(&mut changes, watching, &ranks)?;
-    push_all_purges(&mut changes, watching, &ranks)?;
-    settle(store, changes)
+    let ranks = named_ranks(store, watching, alloc)?;
+    changes_at(store, watching, &ranks)
 }
 
 /// What is due at a database at that moment: which slots expire or are ready, and which messages go, each in the order of the

@@ -1,11 +1,10 @@
 // What is due of the slots of messages.
-ghost use Rattle.std.specs.Prelude.{◌≡◌, ◌++◌, true, OnOk, All, flat_map, slice_get};
+ghost use Rattle.std.specs.Prelude.{◌≡◌, ◌++◌, true, OnOk, flat_map};
 ghost use Rattle.std.specs.List.{range_with_len};
 ghost use Rattle.queue_rows.specs.Rows.{recipient_count, slot_of};
 ghost use Rattle.queue_rows.specs.Due.{due_change, due_slot, due_slots, is_over};
 ghost use Rattle.due_slots.specs.Named.{is_slot_due};
 ghost use Rattle.due_slots.specs.Rows.{HasFewSlots};
-ghost use Rattle.time_manager.specs.Ranks.{given};
 ghost use Rattle.time_manager.specs.Watching.{watch_of};
 
 use crate::holding::is_left;
@@ -88,7 +87,8 @@ fn push_recipient_slots(
     Ok(())
 }
 
-fn push_slots(
+/// Puts in what is due of the slots of a message.
+pub(crate) fn push_slots(
     changes: &mut List<Change>,
     watching: &Watching<'_>,
     message: &MsgRow,
@@ -99,37 +99,6 @@ fn push_slots(
     push_recipient_slots(changes, watching, message)?;
     if message.moved {
         push_slot(changes, watching, message, 0)?;
-    }
-    Ok(())
-}
-
-fn push_slots_at(
-    changes: &mut List<Change>,
-    watching: &Watching<'_>,
-    rank: usize,
-) -> Result<(), AllocError>
-    requires { All HasFewSlots watching.now.tables.now.messages }
-    ensures { let w = watch_of watching.now in
-        OnOk result (changes.new ≡ changes.old ++ given (due_slots w) (slice_get w.tables.messages rank)) }
-{
-    match watching.tables.messages.get(rank) {
-        Some(message) => push_slots(changes, watching, message),
-        None => Ok(()),
-    }
-}
-
-/// Puts in what is due of the slots of the messages that stand there.
-pub(crate) fn push_all_slots(
-    changes: &mut List<Change>,
-    watching: &Watching<'_>,
-    ranks: &[usize],
-) -> Result<(), AllocError>
-    requires { All HasFewSlots watching.now.tables.now.messages }
-    ensures { let w = watch_of watching.now in OnOk result (changes.new ≡ changes.old
-        ++ flat_map (λ rank. given (due_slots w) (slice_get w.tables.messages rank)) ranks.now) }
-{
-    for rank in ranks {
-        push_slots_at(changes, watching, *rank)?;
     }
     Ok(())
 }
