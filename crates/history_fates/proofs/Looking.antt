@@ -116,7 +116,7 @@ module _ (t : Tables) (v : is_valid t ≡ true) (queue : QueueRow) (table : Tabl
       let same : i + 1 ≡ slot = (let a : Some (i + 1) ≡ Some slot = s in cc) in
       ap (λ n. is_remote_slot n m) (sym same) ∙ remote_if (i + 1) m (position_local consumer m i (has_slot m (i + 1)) e refl (ne_eqb (i + 1) 0 (λ z. absurd (omega (arith, z)))))
 
-  may_take_local : (m : MsgRow) (slot : ℕ) (consumer : Option (List ℕ)) → find_message t m.id ≡ Some m → bytes_eq m.queue queue.name ≡ true → d.lacks_consumer queue table consumer ≡ false → d.slot_for queue consumer m ≡ Some slot → is_remote_at t m.id slot ≡ false
+  pub may_take_local : (m : MsgRow) (slot : ℕ) (consumer : Option (List ℕ)) → find_message t m.id ≡ Some m → bytes_eq m.queue queue.name ≡ true → d.lacks_consumer queue table consumer ≡ false → d.slot_for queue consumer m ≡ Some slot → is_remote_at t m.id slot ≡ false
   may_take_local m slot None e q l s = ap (λ o. option_map_or (is_remote_slot slot) o false) e ∙ without_consumer m slot (is_exception queue.kind) refl e q l s
   may_take_local m slot (Some consumer) e q l s = ap (λ o. option_map_or (is_remote_slot slot) o false) e ∙ numbered m slot consumer (position (d.is_local_for consumer) m.slots) refl s
 

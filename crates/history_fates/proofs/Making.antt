@@ -36,7 +36,8 @@ use Rattle.fate_laws.specs.Made.{changes_at, commits_of, changes_of, after_commi
 use Rattle.fate_laws.specs.Proper.{id_put_in, ids_put_in, AreProper}
 use Rattle.fate_laws.proofs.Commits.{after_commits_latest}
 use Rattle.fate_laws.proofs.Committing.{proper_grows}
-use Rattle.world_laws.specs.ValidWorld.{is_ordered, IsValidWorld}
+use Rattle.built_statements.specs.Ordered.{is_ordered}
+use Rattle.world_laws.specs.ValidWorld.{IsValidWorld}
 use Rattle.world_laws.specs.WorldLaws.{MayBegin}
 use Rattle.world_laws.proofs.Answering.{answered_fine}
 use Rattle.world_laws.proofs.Worlds.{fresh_empty, asked, opens_valid, reading_keeps_valid, step_keeps_valid}
@@ -48,7 +49,7 @@ use Rattle.history_fates.proofs.Giving.{IsOwn, Gives, added_below, answered_give
 
 module _ (opening : Tables) (db : DbId) where
   -- a session is replaced by one that has added no more
-  unused_quiet : (cs : List Change) (i : ℕ) (s behind : Session) (sessions : List Session) → AreUnused opening cs db sessions → slice_get sessions i ≡ Some s
+  pub unused_quiet : (cs : List Change) (i : ℕ) (s behind : Session) (sessions : List Session) → AreUnused opening cs db sessions → slice_get sessions i ≡ Some s
       → (is_same_db behind.at db ≡ true → (is_same_db s.at db ≡ true) × ((id : ℕ) → list_any (is_addition_of id) behind.pending ≡ true → list_any (is_addition_of id) s.pending ≡ true)) → AreUnused opening cs db (slice_set sessions i behind)
   unused_quiet cs i s behind sessions held there same = λ j y e at id h. by j y at id h (get_set-cases sessions i j behind y (slice_get_within sessions i s there) e)
     where
@@ -60,7 +61,7 @@ module _ (opening : Tables) (db : DbId) where
       by j y at id h (inr p) = held j y p.1 at id h
 
   -- nothing is committed
-  quiet_made : (w new : World) → AddsEntry db w new [] 0 → AreUnused opening (changes_so_far db w) db new.sessions → IsMade opening db w → IsMade opening db new
+  pub quiet_made : (w new : World) → AddsEntry db w new [] 0 → AreUnused opening (changes_so_far db w) db new.sessions → IsMade opening db w → IsMade opening db new
   quiet_made w new b held m =
       let same : commits_of db new.entries ≡ commits_of db w.entries = ap (commits_of db) b.entries ∙ none-more db w.entries b.entry b.changes in
       let so : changes_so_far db new ≡ changes_so_far db w = ap changes_of same in
@@ -84,7 +85,7 @@ module _ (opening : Tables) (db : DbId) where
     ids_so_far = ap ids_put_in so_far ∙ filter_map-append id_put_in (changes_so_far db w) cs ∙ ap (λ xs. ids_put_in (changes_so_far db w) ++ xs) c.ids_are
 
     -- an id that is none of these is as unused as it was
-    unused_more : (id : ℕ) → IsUnused opening (changes_so_far db w) id → All (λ a. (a == id) ≡ false) ids → IsUnused opening (changes_so_far db new) id
+    pub unused_more : (id : ℕ) → IsUnused opening (changes_so_far db w) id → All (λ a. (a == id) ≡ false) ids → IsUnused opening (changes_so_far db new) id
     unused_more id u none = record { later = u.later; new = subst (All (λ a. (a == id) ≡ false)) (sym ids_so_far) (All-append (λ a. (a == id) ≡ false) (ids_put_in (changes_so_far db w)) ids u.new none) }
 
     made_proper : AllPairs (λ a e. (a == e) ≡ false) ids → All (IsUnused opening (changes_so_far db w)) ids → AreProper opening (changes_so_far db new)
@@ -145,7 +146,7 @@ module _ (opening : Tables) (db : DbId) where
     unused_by j y f id h (inr p) =
         unused_more w new taken cs ids m b g.commit id (m.held j y p.1 f id h) (All-weaker (IsOwn s (database_at db w).next taken) (λ a. (a == id) ≡ false) (own_other j y p.1 f p.0 id h) ids g.from)
 
-    own_made : fits (database_at db w).tables (record { moment = w.moment; changes = cs }) ≡ true → new.sessions ≡ slice_set w.sessions i behind → IsMade opening db new
+    pub own_made : fits (database_at db w).tables (record { moment = w.moment; changes = cs }) ≡ true → new.sessions ≡ slice_set w.sessions i behind → IsMade opening db new
     own_made fit set =
         commit_made w new taken cs ids m b g.commit g.apart (All-weaker (IsOwn s (database_at db w).next taken) (IsUnused opening (changes_so_far db w)) own_unused ids g.from)
         (All-weaker (IsOwn s (database_at db w).next taken) (λ id. id < (database_at db w).next + taken) own_below ids g.from) fit
@@ -310,7 +311,7 @@ module _ (home away : Tables) (scripts : List SessionScript) where
   none_unused : (t : Tables) (db : DbId) → AreUnused t [] db (map fresh scripts)
   none_unused t db i s e at id h = none_added_in id s.pending (fresh_empty scripts i s e).0 h
 
-  opened_made : (db : DbId) → IsMade (opening_at db home away) db (opened home away scripts)
+  pub opened_made : (db : DbId) → IsMade (opening_at db home away) db (opened home away scripts)
   unfolding opened after_commits
   opened_made Home = record { tables = refl; count = refl; fit = refl; proper = nothing_made home; first = omega arith; given = All-nil (λ id. id < home.next); held = none_unused home Home }
   opened_made Away = record { tables = refl; count = refl; fit = refl; proper = nothing_made away; first = omega arith; given = All-nil (λ id. id < away.next); held = none_unused away Away }

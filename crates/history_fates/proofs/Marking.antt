@@ -70,7 +70,7 @@ use Rattle.history_fates.proofs.Sending.{sent_is_remote}
 -- ---- what a statement marks
 
 -- the slot was marked, or it can be taken and goes nowhere
-abbrev MarkedSo : Tables → Session → ℕ → ℕ → Type 0
+abbrev pub MarkedSo : Tables → Session → ℕ → ℕ → Type 0
 MarkedSo t s id slot = (list_any (marks_slot id slot) s.marks ≡ true) ⊎ ((is_remote_at t id slot ≡ false) × (is_open_at t id slot ≡ true))
 
 same_marked : (t : Tables) (s after : Session) → after.marks ≡ s.marks → (id slot : ℕ) → list_any (marks_slot id slot) after.marks ≡ true → MarkedSo t s id slot
@@ -99,7 +99,7 @@ adds_same : (reply : Reply) (ask : Enqueue) (t : Tables) (s : Session) (next mom
 adds_same (replies.Enqueued id) ask t s next moment cs after h = visible_same ask.visibility t s h.message moment cs after h.adds
 adds_same _ ask t s next moment cs after h = h.marks
 
-answered_marks : (w : World) (i : ℕ) (s : Session) (statement : Statement) (reply : Reply) (cs : List Change) (after : Session) → IsRight (database_at s.at w).tables s.at (database_at s.at w).next w.moment w.sessions → w.moment ≤ MOMENT_LIMIT
+pub answered_marks : (w : World) (i : ℕ) (s : Session) (statement : Statement) (reply : Reply) (cs : List Change) (after : Session) → IsRight (database_at s.at w).tables s.at (database_at s.at w).next w.moment w.sessions → w.moment ≤ MOMENT_LIMIT
     → slice_get w.sessions i ≡ Some s → is_within statement ≡ true → meaning w i s statement ≡ answers reply cs after
     → (id slot : ℕ) → list_any (marks_slot id slot) after.marks ≡ true → MarkedSo (database_at s.at w).tables s id slot
 unfolding meaning
@@ -162,7 +162,7 @@ module _ (t : Tables) (db : DbId) (next moment i : ℕ) (s : Session) (sessions 
       let up = k.up in
       ne_eqb a id (λ e. absurd (let q = p.0 in omega (arith, lt, up, e, q)))
 
-  marked_unput : (taken id slot : ℕ) (after : Session) (cs : List Change) (ids : List ℕ) → is_open_at t id slot ≡ true → Gives t next taken s after cs ids → list_any (puts_in id) cs ≡ false
+  pub marked_unput : (taken id slot : ℕ) (after : Session) (cs : List Change) (ids : List ℕ) → is_open_at t id slot ≡ true → Gives t next taken s after cs ids → list_any (puts_in id) cs ≡ false
   marked_unput taken id slot after cs ids o g =
       puts_by_ids id cs (subst (All (λ a. (a == id) ≡ false)) (sym g.commit.ids_are) (All-weaker (IsOwn s next taken) (λ a. (a == id) ≡ false) (λ a own. other_id taken id slot a o own) ids g.from))
 

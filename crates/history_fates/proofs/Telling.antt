@@ -45,21 +45,21 @@ or_true true = refl
 or_true false = refl
 
 -- a flush makes all durable
-until-flush : (xs : List Entry) (x : Entry) → is_flush x.step ≡ true → until_flush (xs ++ x ∷ []) ≡ xs ++ x ∷ []
+pub until-flush : (xs : List Entry) (x : Entry) → is_flush x.step ≡ true → until_flush (xs ++ x ∷ []) ≡ xs ++ x ∷ []
 until-flush [] x f = ap (λ b. if b || false then x ∷ [] else []) f
 until-flush (y ∷ ys) x f =
     let any : list_any is_flush_entry (ys ++ x ∷ []) ≡ true = any-append ys (x ∷ []) ∙ ap (λ b. list_any is_flush_entry ys || (b || false)) f ∙ or_true (list_any is_flush_entry ys) in
     ap (λ b. if is_flush_entry y || b then y ∷ until_flush (ys ++ x ∷ []) else []) any ∙ ap (λ b. if b then y ∷ until_flush (ys ++ x ∷ []) else []) (or_true (is_flush_entry y)) ∙ ap (λ es. y ∷ es) (until-flush ys x f)
 
 -- and nothing else does
-until-other : (xs : List Entry) (x : Entry) → is_flush x.step ≡ false → until_flush (xs ++ x ∷ []) ≡ until_flush xs
+pub until-other : (xs : List Entry) (x : Entry) → is_flush x.step ≡ false → until_flush (xs ++ x ∷ []) ≡ until_flush xs
 until-other [] x f = ap (λ b. if b || false then x ∷ [] else []) f
 until-other (y ∷ ys) x f =
     let any : list_any is_flush_entry (ys ++ x ∷ []) ≡ list_any is_flush_entry ys = any-append ys (x ∷ []) ∙ ap (λ b. list_any is_flush_entry ys || (b || false)) f ∙ or_off (list_any is_flush_entry ys) in
     ap (λ b. if is_flush_entry y || b then y ∷ until_flush (ys ++ x ∷ []) else []) any ∙ ap (λ es. if is_flush_entry y || list_any is_flush_entry ys then y ∷ es else []) (until-other ys x f)
 
 -- a first part makes no more than all
-made_first : (db : DbId) (xs ys : List Entry) → made db xs ≤ made db (xs ++ ys)
+pub made_first : (db : DbId) (xs ys : List Entry) → made db xs ≤ made db (xs ++ ys)
 made_first db xs ys =
     let e = ap length (filter_map-append (commit_at db) xs ys) in
     let f = length-append (commits_of db xs) (commits_of db ys) in
@@ -135,17 +135,17 @@ module _ (actor : ℕ) (w : World) (step : Step) where
 
 -- ---- what is to be told
 
-abbrev untold_at : DbId → Untold → ℕ
+abbrev pub untold_at : DbId → Untold → ℕ
 untold_at Home u = u.home
 untold_at Away u = u.away
 
 -- what was made up to a call that is to be told is as much as was noted, or less
-abbrev AreNoted : List Entry → List Session → Type 0
+abbrev pub AreNoted : List Entry → List Session → Type 0
 AreNoted entries sessions = (j : ℕ) (s : Session) (u : Untold) → slice_get sessions j ≡ Some s → s.untold ≡ Some u
     → (db : DbId) (before : List Entry) (call : Entry) (more : List Entry) → entries ≡ before ++ call ∷ more → is_call j u.number call ≡ true → made db (before ++ call ∷ []) ≤ untold_at db u
 
 -- what was told was durable
-abbrev AreTold : List Entry → Type 0
+abbrev pub AreTold : List Entry → Type 0
 AreTold entries = (db : DbId) (i number : ℕ) (front : List Entry) (tells : Entry) (rest : List Entry) → entries ≡ front ++ tells ∷ rest → is_told i number tells ≡ true
     → (before : List Entry) (call : Entry) (more : List Entry) → front ≡ before ++ call ∷ more → is_call i number call ≡ true → made db (before ++ call ∷ []) ≤ durable db front
 
@@ -155,7 +155,7 @@ record IsKept (w : World) : Type 0 where
   pub told : AreTold w.entries
 
 -- an entry more that tells nothing
-told_quiet : (entries : List Entry) (x : Entry) → ((i number : ℕ) → is_told i number x ≡ false) → AreTold entries → AreTold (entries ++ x ∷ [])
+pub told_quiet : (entries : List Entry) (x : Entry) → ((i number : ℕ) → is_told i number x ≡ false) → AreTold entries → AreTold (entries ++ x ∷ [])
 told_quiet entries x none k db i number front tells rest q t before call more f c = by (last_or_before entries x front tells rest q)
   where
     by : ((front ≡ entries) × (tells ≡ x)) ⊎ ((later : List Entry) × (entries ≡ front ++ tells ∷ later)) → made db (before ++ call ∷ []) ≤ durable db front
@@ -163,7 +163,7 @@ told_quiet entries x none k db i number front tells rest q t before call more f 
     by (inr p) = k db i number front tells p.0 p.1 t before call more f c
 
 -- an entry more that is no call of the session
-noted_one : (entries : List Entry) (x : Entry) (j : ℕ) (u : Untold) → is_call j u.number x ≡ false
+pub noted_one : (entries : List Entry) (x : Entry) (j : ℕ) (u : Untold) → is_call j u.number x ≡ false
     → ((db : DbId) (before : List Entry) (call : Entry) (more : List Entry) → entries ≡ before ++ call ∷ more → is_call j u.number call ≡ true → made db (before ++ call ∷ []) ≤ untold_at db u)
     → (db : DbId) (before : List Entry) (call : Entry) (more : List Entry) → entries ++ x ∷ [] ≡ before ++ call ∷ more → is_call j u.number call ≡ true → made db (before ++ call ∷ []) ≤ untold_at db u
 noted_one entries x j u none k db before call more q c = by (last_or_before entries x before call more q)
@@ -172,21 +172,21 @@ noted_one entries x j u none k db before call more q c = by (last_or_before entr
     by (inl p) = absurd (true≢false (sym c ∙ ap (is_call j u.number) p.1 ∙ none))
     by (inr p) = k db before call p.0 p.1 c
 
-no_call : (j n : ℕ) (e : Entry) → is_call_step n e.step ≡ false → is_call j n e ≡ false
+pub no_call : (j n : ℕ) (e : Entry) → is_call_step n e.step ≡ false → is_call j n e ≡ false
 no_call j n e f = ap (λ b. (e.actor == j) && b) f ∙ by (e.actor == j)
   where
     by : (b : Bool) → (b && false) ≡ false
     by true = refl
     by false = refl
 
-no_told : (i n : ℕ) (e : Entry) → is_told_step n e.step ≡ false → is_told i n e ≡ false
+pub no_told : (i n : ℕ) (e : Entry) → is_told_step n e.step ≡ false → is_told i n e ≡ false
 no_told i n e f = ap (λ b. (e.actor == i) && b) f ∙ by (e.actor == i)
   where
     by : (b : Bool) → (b && false) ≡ false
     by true = refl
     by false = refl
 
-other_call : (j i n : ℕ) (e : Entry) → e.actor ≡ i → j ≢ i → is_call j n e ≡ false
+pub other_call : (j i n : ℕ) (e : Entry) → e.actor ≡ i → j ≢ i → is_call j n e ≡ false
 other_call j i n e a d = by (e.actor == j) refl
   where
     by : (b : Bool) → (e.actor == j) ≡ b → (b && is_call_step n e.step) ≡ false
@@ -347,7 +347,7 @@ opened_kept home away scripts = record {
 
 -- ---- histories
 
-until_uncounted : (entries : List Entry) → until_flush (map uncounted entries) ≡ map uncounted (until_flush entries)
+pub until_uncounted : (entries : List Entry) → until_flush (map uncounted entries) ≡ map uncounted (until_flush entries)
 until_uncounted [] = refl
 until_uncounted (e ∷ more) =
     ap (λ b. if is_flush_entry e || b then uncounted e ∷ until_flush (map uncounted more) else []) (any_uncounted more) ∙ by (is_flush_entry e || list_any is_flush_entry more) (until_uncounted more)
@@ -360,7 +360,7 @@ until_uncounted (e ∷ more) =
     by true ih = ap (λ es. uncounted e ∷ es) ih
     by false ih = refl
 
-made_uncounted : (db : DbId) (entries : List Entry) → made db (map uncounted entries) ≡ made db entries
+pub made_uncounted : (db : DbId) (entries : List Entry) → made db (map uncounted entries) ≡ made db entries
 made_uncounted db entries = ap length (commits_uncounted db entries)
 
 pub legal_is_durable_as_told : (home away : Tables) (scripts : List SessionScript) (h : History) → IsLegalHistory home away scripts h → ToldIsDurable h

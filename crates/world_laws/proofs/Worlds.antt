@@ -33,7 +33,8 @@ use Rattle.statement_laws.specs.StandingLaws.{count_held, AreStanding}
 use Rattle.statement_laws.proofs.Framing.{same_db, count_set}
 use Rattle.statement_laws.proofs.Standing.{empty_stands, empty_two, two_empty, empty_are_standing, standing_later, replaced_standing}
 use Rattle.statement_laws.proofs.Stepping.{same_standing}
-use Rattle.world_laws.specs.ValidWorld.{is_ordered, AreScripts, IsRight, IsValidWorld}
+use Rattle.built_statements.specs.Ordered.{is_ordered}
+use Rattle.world_laws.specs.ValidWorld.{AreScripts, IsRight, IsValidWorld}
 use Rattle.world_laws.specs.WorldLaws.{MayBegin}
 use Rattle.world_laws.proofs.Answering.{answered_fine, answered_right}
 
@@ -64,7 +65,7 @@ module _ (t : Tables) (db : DbId) (next moment i : ℕ) (s behind : Session) (se
     up = k.up;
   }
 
-replaced_by : (t : Tables) (db : DbId) (next moment i : ℕ) (s behind : Session) (sessions : List Session) (b : Bool) → is_same_db s.at db ≡ b → IsRight t db next moment sessions → slice_get sessions i ≡ Some s → behind.at ≡ s.at
+pub replaced_by : (t : Tables) (db : DbId) (next moment i : ℕ) (s behind : Session) (sessions : List Session) (b : Bool) → is_same_db s.at db ≡ b → IsRight t db next moment sessions → slice_get sessions i ≡ Some s → behind.at ≡ s.at
     → (is_same_db s.at db ≡ true → AreStanding t db next moment (slice_set sessions i behind)) → IsRight t db next moment (slice_set sessions i behind)
 replaced_by t db next moment i s behind sessions true e r there same own = record { valid = r.valid; fields = r.fields; latest = r.latest; standing = own e; most = r.most }
 replaced_by t db next moment i s behind sessions false e r there same own =
@@ -160,12 +161,12 @@ quiet_valid w actor i step s behind v there same own = record {
 }
 
 -- the session holds what it held
-same_valid : (w : World) (actor i : ℕ) (step : Step) (s behind : Session) → IsValidWorld w → slice_get w.sessions i ≡ Some s → behind.at ≡ s.at → behind.pending ≡ s.pending → behind.marks ≡ s.marks → IsValidWorld (with_session i behind (stepped actor w [] [] step))
+pub same_valid : (w : World) (actor i : ℕ) (step : Step) (s behind : Session) → IsValidWorld w → slice_get w.sessions i ≡ Some s → behind.at ≡ s.at → behind.pending ≡ s.pending → behind.marks ≡ s.marks → IsValidWorld (with_session i behind (stepped actor w [] [] step))
 same_valid w actor i step s behind v there same p m =
     quiet_valid w actor i step s behind v there same (λ db at. same_standing (database_at db w).tables db (database_at db w).next w.moment i s behind w.sessions (v.databases db).standing there at same p m)
 
 -- it holds nothing any more
-empty_valid : (w : World) (actor i : ℕ) (step : Step) (s behind : Session) → IsValidWorld w → slice_get w.sessions i ≡ Some s → behind.at ≡ s.at → behind.pending ≡ [] → behind.marks ≡ [] → IsValidWorld (with_session i behind (stepped actor w [] [] step))
+pub empty_valid : (w : World) (actor i : ℕ) (step : Step) (s behind : Session) → IsValidWorld w → slice_get w.sessions i ≡ Some s → behind.at ≡ s.at → behind.pending ≡ [] → behind.marks ≡ [] → IsValidWorld (with_session i behind (stepped actor w [] [] step))
 empty_valid w actor i step s behind v there same p m =
     quiet_valid w actor i step s behind v there same
     (λ db at.

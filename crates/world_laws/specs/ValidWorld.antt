@@ -1,37 +1,23 @@
 -- What holds of a world at each moment of a legal history.
-use Rattle.std.specs.Prelude.{◌≡◌, ◌≤◌, ℕ, List, Bool, true, None}
-use Rattle.std.specs.List.{list_all}
+use Rattle.std.specs.Prelude.{◌≡◌, ◌≤◌, ℕ, List, true, None}
 use Rattle.aq_base.specs.declared.DbId.{DbId}
 use Rattle.aq_base.specs.declared.limits.TheConstants.{MOMENT_LIMIT, NEXT_LIMIT}
-use Rattle.payload_records.specs.Order.{is_in_order}
 use Rattle.queue_rows.specs.Session.{Session}
 use Rattle.queue_rows.specs.World.{World, database_at}
 use Rattle.queue_rows.specs.Within.{are_within}
 use Rattle.queue_rows.specs.Valid.{is_valid}
 use Rattle.queue_rows.specs.declared.tables.Tables.{Tables}
 use Rattle.queue_rows.specs.declared.history.SessionScript.{SessionScript}
-use Rattle.queue_rows.specs.declared.statement.Statement.{Statement}
-use Rattle.queue_rows.specs.declared.statement.Statement.TheVariants as statements
-use Rattle.queue_rows.specs.declared.statement.Admin.{Admin}
-use Rattle.queue_rows.specs.declared.statement.Admin.TheVariants as asks
+use Rattle.built_statements.specs.Ordered.{are_ordered}
 use Rattle.statement_laws.specs.EnqueueLaws.{has_ordered_fields}
 use Rattle.statement_laws.specs.StandingLaws.{AreStanding}
 
 -- ---- scripts
 
--- the fields of a table that it creates stand in the order of their names, each name once
-abbrev pub asks_ordered : Admin → Bool
-asks_ordered (asks.CreateTable table fields sort multi grouped) = is_in_order fields
-asks_ordered _ = true
-
-abbrev pub is_ordered : Statement → Bool
-is_ordered (statements.Admin ask) = asks_ordered ask
-is_ordered _ = true
-
 -- the scripts keep the limits, and so do the types of the tables that they create
 pub record AreScripts (scripts : List SessionScript) : Type 0 where
   pub within : are_within scripts ≡ true
-  pub ordered : list_all (λ script. list_all is_ordered script.statements) scripts ≡ true
+  pub ordered : are_ordered scripts ≡ true
 
 -- ---- a database
 

@@ -1,0 +1,5 @@
+pub mod Grouped
+pub mod Looking
+pub mod Staying
+pub mod Tabling
+pub mod Worlds

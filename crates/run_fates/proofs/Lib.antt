@@ -1,0 +1,6 @@
+pub mod Arrivals
+pub mod Keeping
+pub mod Lasting
+pub mod Leading
+pub mod Making
+pub mod Telling

@@ -1,0 +1,2 @@
+pub mod DurableRun
+pub mod RunFates

@@ -1,0 +1,11 @@
+//! Laws of legal histories in which due work, waiting and propagation are steps too: what they commit, and what becomes of messages.
+//!
+//! Each law is a function with an empty body, whose clause is the law; a caller that calls it has it.
+#![tactic(auto)]
+
+mod laws;
+
+pub use laws::{
+    legal_commits_fit, legal_confirms_seen, legal_copies_durable, legal_ends_in,
+    legal_has_arrivals, legal_has_fates, legal_is_durable_as_told, legal_sees_once,
+};

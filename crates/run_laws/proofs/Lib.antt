@@ -1,0 +1,14 @@
+pub mod Arriving
+pub mod Calling
+pub mod Committing
+pub mod Grouping
+pub mod Hindering
+pub mod Passing
+pub mod Picking
+pub mod Positions
+pub mod Resting
+pub mod Sendings
+pub mod Stepping
+pub mod Was
+pub mod Working
+pub mod Worlds

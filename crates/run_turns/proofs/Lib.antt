@@ -1,0 +1,14 @@
+pub mod Adding
+pub mod Began
+pub mod Calling
+pub mod Ended
+pub mod Growing
+pub mod Legally
+pub mod Oneness
+pub mod Ordering
+pub mod Parts
+pub mod Resting
+pub mod Serially
+pub mod Sounding
+pub mod Standing
+pub mod Turned
