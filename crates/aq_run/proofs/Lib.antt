@@ -1,6 +1,7 @@
+pub mod Closing
 pub mod Fronts
 pub mod Playing
 pub mod Progress
-pub mod Rounding
+pub mod Results
 pub mod Running
 pub mod Turning

@@ -1,2 +1,3 @@
-pub mod Serve
+pub mod Progress
 pub mod Rounds
+pub mod Serve

@@ -1,15 +1,25 @@
 -- What the program answers.
-use Rattle.std.specs.Prelude.{◌≡◌, ◌≤◌, ◌⊎◌, ℕ, ◌++◌, ◌&&◌, List, [], ◌∷◌, length, take, codes, Bool, Option, Ok, Err, false}
+use Rattle.std.specs.Prelude.{◌≡◌, ◌≤◌, ◌⊎◌, ℕ, ◌++◌, ◌&&◌, List, [], ◌∷◌, length, take, codes, Bool, Option, Ok, Err, true, false}
 use Rattle.std.specs.Str.{bytes_eq}
 use Rattle.std.specs.Fmt.{decimal}
 use Rattle.std.specs.Io.KnownBytes.{Appends}
 use Rattle.aq_base.specs.Causes.{Rose}
+use Rattle.aq_base.specs.declared.DbId.{DbId}
 use Rattle.queue_rows.specs.Tables.{empty_tables}
-use Rattle.queue_rows.specs.Serial.{IsSerial, IsSerialFront}
-use Rattle.queue_rows.specs.Legal.{IsLegalHistory}
+use Rattle.run_laws.specs.Serial.{IsSerial, IsSerialFront}
+use Rattle.run_laws.specs.Legal.{IsLegalHistory}
 use Rattle.queue_rows.specs.Order.{CallsAll, CallsInOrder}
 use Rattle.queue_rows.specs.declared.history.History.{History}
 use Rattle.queue_rows.specs.declared.history.SessionScript.{SessionScript}
+use Rattle.queue_rows.specs.declared.history.SlotRef.{SlotRef}
+use Rattle.queue_rows.specs.declared.tables.Tables.{Tables}
+use Rattle.world_laws.specs.WorldLaws.{MayBegin}
+use Rattle.fate_laws.specs.Lasting.{HasFates}
+use Rattle.fate_laws.specs.Made.{commits_of, opening_of}
+use Rattle.history_fates.specs.Arrivals.{IsSeenOnce, HasArrivals}
+use Rattle.history_fates.specs.Durability.{ToldIsDurable}
+use Rattle.history_fates.specs.LegalFates.{all_fit}
+use Rattle.run_fates.specs.DurableRun.{ConfirmedIsSeen, CopiedIsDurable}
 use Rattle.script_text.specs.Script.{script}
 
 -- the words ask for a serial run
@@ -38,6 +48,24 @@ WritesFront taken old new text = (n : ℕ) × (n ≤ length text) × Appends (ta
 -- the text was written whole, or some first bytes of it and the sink failed
 abbrev pub Tells : {S : Type 0} → (S → Option (List ℕ)) → (S → ℕ) → S → S → List ℕ → Type 0
 Tells taken faults old new text = Appends (taken old) (taken new) text ⊎ (WritesFront taken old new text × Rose (faults old) (faults new))
+
+-- ---- what holds of a history
+
+-- What the laws of legal histories say of it: each commit fits the tables that those before it leave; each slot of each message has one
+-- fate; each slot arrives as a copy at most once, as it was; and what was told, confirmed and copied was durable.
+pub record HoldsOf (h : History) : Type 0 where
+  pub fit : (db : DbId) → all_fit (opening_of db h) (commits_of db h.entries) ≡ true
+  pub fates : (db : DbId) → HasFates db h
+  pub seen_once : (db : DbId) (at : SlotRef) → IsSeenOnce (opening_of db h) (commits_of db h.entries) at
+  pub arrivals : HasArrivals h
+  pub told : ToldIsDurable h
+  pub confirmed : ConfirmedIsSeen h
+  pub copied : CopiedIsDurable h
+
+-- all of that holds of each legal history
+abbrev pub LegalHolds : Type 0
+LegalHolds = (home away : Tables) (scripts : List SessionScript) (h : History) → MayBegin home away scripts
+    → IsLegalHistory home away scripts h → HoldsOf h
 
 -- ---- whose history it is
 

@@ -3,12 +3,12 @@ ghost use Rattle.std.specs.Prelude.{◌≡◌, ◌≢◌, ◌↔◌, ◌⊎◌, 
 ghost use Rattle.std.specs.Io.KnownBytes.{Appends};
 ghost use Rattle.aq_base.specs.Causes.{Rose};
 ghost use Rattle.transcript.specs.Print.{print};
-ghost use Rattle.built_statements.specs.Built.{IsShortScript};
-ghost use Rattle.script_text.specs.Script.{script, AreWithinLimits};
-ghost use Rattle.aq_world.specs.DiskCalls.{HasNoCalls};
-ghost use Rattle.aq_run.specs.Serve.{is_serial_run, usage_text, bad_line_text, empty_history, WritesFront, Tells, IsRunBy, IsFrontBy, IsRunOf, AnswersFront, AnswersBad, IsRun, IsStatus};
+ghost use Rattle.script_text.specs.Readable.{AreReadable};
+ghost use Rattle.script_text.specs.Script.{script};
+ghost use Rattle.run_state.specs.Entries.{HasNoCalls};
+ghost use Rattle.aq_run.specs.Serve.{is_serial_run, usage_text, bad_line_text, empty_history, WritesFront, Tells, IsRunBy, IsFrontBy, IsRunOf, AnswersFront, AnswersBad, HoldsOf, IsRun, IsStatus};
 
-use crate::play::{Played, play};
+use crate::play::{Played, legal_holds, play};
 use aq_base::{INPUT_LIMIT, ReadFault, Sink, Source, Words, read_up_to, write_all};
 use payload_records::List;
 use queue_rows::{History, SessionScript, Tables};
@@ -49,7 +49,9 @@ fn empty_history(alloc: Global) -> History
 fn unbegun(alloc: Global, status: u8) -> Outcome
     ensures status { result.status ≡ status }
     ensures history { result.history ≡ empty_history }
+    ensures holds { HoldsOf result.history }
 {
+    legal_holds();
     Outcome {
         status,
         history: empty_history(alloc),
@@ -100,14 +102,14 @@ fn read_input<I: Source>(alloc: Global, input: &mut I) -> Result<Vec<u8>, ReadFa
 
 /// The serial run of these scripts, printed.
 fn run_serial<O: Sink>(alloc: Global, scripts: List<SessionScript>, out: &mut O) -> Outcome
-    requires within { AreWithinLimits scripts }
-    requires short { All IsShortScript scripts }
+    requires { AreReadable scripts }
     ensures known { IsRun result.status ⊎ (result.status ≡ 4) }
     ensures history { IsRun result.status → IsRunBy scripts result.history }
     ensures whole { result.status ≡ 0 → Appends (O.taken out.old) (O.taken out.new) (print result.history) }
     ensures part { WritesFront O.taken out.old out.new (print result.history) }
     ensures write_fault { result.status ≡ 7 → Rose (O.faults out.old) (O.faults out.new) }
     ensures first { result.status ≡ 4 → (result.history ≡ empty_history) ⊎ IsFrontBy scripts result.history }
+    ensures holds { HoldsOf result.history }
     ensures calls { All HasNoCalls result.history.entries }
 {
     let Ok(Played { history, is_whole }) = play(alloc, scripts) else {
@@ -134,6 +136,7 @@ fn run_bytes<O: Sink>(alloc: Global, bytes: &[u8], out: &mut O) -> Outcome
     ensures write_fault { result.status ≡ 7 → Rose (O.faults out.old) (O.faults out.new) }
     ensures first { result.status ≡ 4 → AnswersFront bytes.now result.history }
     ensures empty { result.status ≡ 2 → result.history ≡ empty_history }
+    ensures holds { HoldsOf result.history }
     ensures calls { All HasNoCalls result.history.entries }
 {
     match read(alloc, bytes) {
@@ -168,6 +171,7 @@ pub fn serve<I: Source, O: Sink>(
     ensures front { result.status ≡ 4 → WritesFront O.taken out.old out.new (print result.history) }
     ensures empty { (result.status ≡ 1) ⊎ (result.status ≡ 2) ⊎ (result.status ≡ 3)
         → result.history ≡ empty_history }
+    ensures holds { HoldsOf result.history }
     ensures calls { All HasNoCalls result.history.entries }
 {
     if !is_serial_run(words) {

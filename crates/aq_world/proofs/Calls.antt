@@ -1,163 +1,114 @@
--- What a call, a telling and an end make of the world.
-use Rattle.std.proofs.Common.{◌≡◌, ℕ, ◌+◌, ◌-◌, ◌<◌, ◌≤◌, ◌^◌, inl, inr, List, [], ◌∷◌, ◌++◌, Bool, true, false, Option, Some, None, All, refl, sym, ap, subst, ◌∙◌, arith, length, if◌then◌else◌}
-use Rattle.std.specs.Prelude.{◌==◌, map, slice_get, slice_set, option_map, IfSome}
-use Rattle.std.proofs.lemmas.Option.{slice_get_within, get_or_from_slice_get}
-use Rattle.std.proofs.lemmas.List.{map-append}
-use Rattle.aq_base.specs.declared.DbId.{DbId}
-use Rattle.aq_base.specs.declared.DbId.TheVariants.{Home, Away}
+-- Who calls next, and that it can.
+use Rattle.std.proofs.Common.{◌≡◌, ◌≢◌, ℕ, ◌+◌, ◌<◌, ◌≤◌, ◌^◌, inl, inr, List, [], ◌++◌, ◌∷◌, Option, Some, None, true, false, refl, sym, ap, subst, ◌∙◌, arith, length, length-append, ◌&&◌}
+use Rattle.std.specs.Prelude.{IfSome, map, nat_le, option_map, slice_get}
+use Rattle.std.specs.List.{AllZip, list_all, sum_by}
+use Rattle.std.specs.Str.{bytes_eq}
+use Rattle.std.proofs.lemmas.Bool.{and_parts, leb-true}
+use Rattle.std.proofs.lemmas.List.Sums.{sum-map, get_or-le-sum_by}
+use Rattle.std.proofs.lemmas.Option.{none-some, slice_get_within, get_or_from_slice_get}
+use Rattle.aq_base.specs.declared.limits.TheConstants.{SESSION_LIMIT, STATEMENT_LIMIT}
 use Rattle.slot_marks.specs.Marks.{SessionMarks, marks_of, has_slot, has_any_group, IsFreeFor}
 use Rattle.slot_marks.specs.declared.mark.Mark.{Mark}
-use Rattle.built_statements.specs.Built.{IsShortScript}
+use Rattle.queue_rows.specs.Distinct.{are_distinct}
+use Rattle.queue_rows.specs.Meaning.{answers}
 use Rattle.queue_rows.specs.Session.{Session}
-use Rattle.queue_rows.specs.Statements.{meaning, statement_of, next_statement}
-use Rattle.queue_rows.specs.World.{World, Database, database_at, committed, commits_in, at_home, at_away, stepped, entry_of, uncounted, with_session}
-use Rattle.queue_rows.specs.Turns.{ids_taken, with_ids, called, ended, told, flushed}
-use Rattle.queue_rows.specs.declared.change.Change.{Change}
-use Rattle.queue_rows.specs.declared.history.Entry.{Entry}
-use Rattle.queue_rows.specs.declared.history.History.{History}
+use Rattle.queue_rows.specs.Statements.{statement_of}
+use Rattle.queue_rows.specs.Turns.{ids_taken}
+use Rattle.queue_rows.specs.Within.{are_within, is_within, is_script_within, statement_count}
 use Rattle.queue_rows.specs.declared.history.SessionScript.{SessionScript}
-use Rattle.queue_rows.specs.declared.history.Step.TheVariants.{Call, Told, End}
+use Rattle.queue_rows.specs.declared.reply.Reply.{Reply}
+use Rattle.queue_rows.specs.declared.reply.Reply.TheVariants as replies
 use Rattle.queue_rows.specs.declared.statement.Statement.{Statement}
-use Rattle.queue_rows.proofs.Counting.{sessions-stepped}
-use Rattle.sessions.specs.States.{AreMarks}
-use Rattle.sessions.specs.Within.{IsWithin}
-use Rattle.aq_world.specs.CallEntries.{changes_at, CanMake}
-use Rattle.aq_world.specs.Progress.{asked_by}
-use Rattle.aq_world.specs.CallEffects.{additions_of, pending_after, holding, done_by, IsFit, IsLater, IsNextCall, call_meant, mark_of}
-use Rattle.aq_world.specs.Sessions.{changed_at, unmarked, IsFreeIn, after_call, after_reply, after_end}
-use Rattle.aq_world.specs.Sound.{database_of, other_db, IsSound, IsRead}
-use Rattle.aq_world.specs.declared.call_effect.CallEffect.{CallEffect}
-use Rattle.aq_world.specs.declared.call_effect.Holdings.{Holdings}
-use Rattle.aq_world.specs.declared.call_effect.NewPositions.{NewPositions}
-use Rattle.aq_world.proofs.Results.{of_some, some_of}
-use Rattle.aq_world.proofs.Changing.{changed_there, room_then}
-use Rattle.aq_world.proofs.Progress.{sessions-flushed}
-use Rattle.aq_world.proofs.Soundness.{can_make, own_groups, sound_called}
-
--- the world of these parts
-abbrev pub run_of : History → Database → Database → List Session → ℕ → ℕ → World
-run_of history home away sessions moment readings = record {
-  home = home;
-  away = away;
-  scripts = history.scripts;
-  sessions = sessions;
-  transit = None;
-  opening = history.opening;
-  moment = moment;
-  readings = readings;
-  entries = map uncounted history.entries;
-}
-
--- ---- a session is set
-
-pub set_session : (f : Session → Session) (w : World) (i : ℕ) (s : Session) → slice_get w.sessions i ≡ Some s → record w { sessions = changed_at i f w.sessions } ≡ with_session i (f s) w
-set_session f w i s there = ap (λ ss. record w { sessions = ss }) (changed_there f w.sessions i s there)
-
--- the world of these parts, where the sessions become others
-pub run_changed : (f : Session → Session) (history : History) (home away : Database) (ss tt : List Session) (moment readings i : ℕ) (w : World) → run_of history home away ss moment readings ≡ w → tt ≡ changed_at i f ss
-    → run_of history home away tt moment readings ≡ record w { sessions = changed_at i f w.sessions }
-run_changed f history home away ss tt moment readings i w is e =
-    ap (λ x. run_of history home away x moment readings) e ∙ ap (λ (v : World). record v { sessions = changed_at i f v.sessions }) is
-
-pub ended_is : (i : ℕ) (s : Session) (w : World) → slice_get w.sessions i ≡ Some s
-    → (let v = stepped i w [] [] End in record v { sessions = changed_at i after_end v.sessions }) ≡ ended i s w
-ended_is i s w there =
-    set_session after_end (stepped i w [] [] End) i s (ap (λ ss. slice_get ss i) (sessions-stepped i w [] [] End) ∙ there)
-
-pub told_is : (i number : ℕ) (s : Session) (w : World) → slice_get w.sessions i ≡ Some s
-    → (let v = stepped i (flushed i w) [] [] (Told number) in record v { sessions = changed_at i after_reply v.sessions }) ≡ told i s number w
-told_is i number s w there =
-    let same = sessions-stepped i (flushed i w) [] [] (Told number) ∙ sessions-flushed i w in
-    set_session after_reply (stepped i (flushed i w) [] [] (Told number)) i s (ap (λ ss. slice_get ss i) same ∙ there)
+use Rattle.aq_base.specs.declared.DbId.{DbId}
+use Rattle.sessions.specs.States.{AreMarks, IsStateOf}
+use Rattle.sessions.specs.declared.state.SessionState.{SessionState}
+use Rattle.world_laws.specs.ValidWorld.{AreScripts}
+use Rattle.world_laws.proofs.Worlds.{asked}
+use Rattle.run_laws.specs.Statements.{meaning, next_statement, slot_sent}
+use Rattle.run_laws.specs.World.{World, database_at}
+use Rattle.run_laws.proofs.Was.{past}
+use Rattle.run_state.specs.CallEffects.{IsCallable, IsFreeOf, IsLater, call_meant, done_by, mark_of, pend_of, pending_after}
+use Rattle.run_state.specs.Sessions.{session_of, unmarked, IsFreeIn}
+use Rattle.run_state.specs.declared.call_effect.CallEffect.{CallEffect}
+use Rattle.run_state.specs.declared.call_effect.Holdings.{Holdings}
+use Rattle.run_state.specs.declared.call_effect.Holdings.TheVariants.{Kept, Cleared}
+use Rattle.aq_world.specs.Calling.{IsCallerIn, IsFreeDoing, MayCall, doing_meant, mark_in}
+use Rattle.aq_world.specs.Sound.{IsSound}
+use Rattle.aq_world.specs.Stepping.{CanDo, IsNext, Means}
+use Rattle.aq_world.specs.declared.respond.Caller.{Caller}
+use Rattle.aq_world.specs.declared.respond.Doing.{Doing}
+use Rattle.aq_world.specs.declared.respond.Doing.TheVariants.{Call, Wait}
+use Rattle.aq_world.proofs.Pends.{Pends, PendsOne, answered_so}
 
 -- ---- the session that is found
 
-pub session_there : (o : Option Session) (session : Session) → option_map unmarked (Some session) ≡ option_map unmarked o → (s : Session) × (o ≡ Some s) × (unmarked session ≡ unmarked s)
-session_there None session e = absurd (let no : Some (unmarked session) ≡ None = e in cc)
-session_there (Some s) session e = (s, refl, let is : Some (unmarked session) ≡ Some (unmarked s) = e in cc)
+pub session_there : (o : Option Session) (state : SessionState) → option_map session_of (Some state) ≡ option_map unmarked o → (s : Session) × (o ≡ Some s) × (session_of state ≡ unmarked s)
+session_there None state e = absurd (let no : Some (session_of state) ≡ None = e in cc)
+session_there (Some s) state e = (s, refl, let is : Some (session_of state) ≡ Some (unmarked s) = e in cc)
 
--- ---- a call
+pub state_of : (state : SessionState) (s : Session) → session_of state ≡ unmarked s → IsStateOf state s
+state_of state s e = record {
+  at = ap (λ t. t.at) (sym e);
+  next = ap (λ t. t.next) (sym e);
+  pending = ap (λ t. t.pending) (sym e);
+  positions = ap (λ t. t.positions) (sym e);
+  parked = ap (λ t. t.parked) (sym e);
+}
 
-pub database_is : (db : DbId) (w : World) → database_at db w ≡ database_of db w.home w.away
-database_is Home w = refl
-database_is Away w = refl
+-- ---- what is asked
 
-pub changes_are : (db : DbId) (e : Entry) (commit : List Change) → e.home ≡ at_home db commit → e.away ≡ at_away db commit → changes_at db e ≡ commit
-changes_are Home e commit home away = home
-changes_are Away e commit home away = away
+few_statements : (scripts : List SessionScript) → are_within scripts ≡ true → statement_count scripts ≤ STATEMENT_LIMIT
+unfolding are_within
+few_statements scripts h =
+    let p3 = and_parts (nat_le (length scripts) SESSION_LIMIT && nat_le (statement_count scripts) STATEMENT_LIMIT && are_distinct bytes_eq (map (λ script. script.name) scripts)) (list_all is_script_within scripts) h in
+    let p2 = and_parts (nat_le (length scripts) SESSION_LIMIT && nat_le (statement_count scripts) STATEMENT_LIMIT) (are_distinct bytes_eq (map (λ script. script.name) scripts)) p3.0 in
+    leb-true (statement_count scripts) STATEMENT_LIMIT (and_parts (nat_le (length scripts) SESSION_LIMIT) (nat_le (statement_count scripts) STATEMENT_LIMIT) p2.0).1
 
-made_before : (db : DbId) (w : World) → IsRead w → (database_of db w.home w.away).made < w.readings
-made_before Home w read = read.home_before
-made_before Away w read = read.away_before
+-- no session has more statements than there are
+script_few : (scripts : List SessionScript) (i : ℕ) (script : SessionScript) → slice_get scripts i ≡ Some script → length script.statements ≤ statement_count scripts
+script_few scripts i script there =
+    let most = get_or-le-sum_by (λ s. length s.statements) scripts i script (slice_get_within scripts i script there) in
+    let is = ap (λ s. length s.statements) (get_or_from_slice_get scripts i script script there) in
+    let all = sum-map (λ s. length s.statements) scripts in
+    omega (arith, most, is, all)
 
-pub call_makes : (w : World) (i : ℕ) (s : Session) (call : CallEffect) (db : DbId) (changes : List Change) (ids : ℕ) → IsSound w.home w.away w.sessions w.moment w.readings → IsRead w → slice_get w.sessions i ≡ Some s
-    → IsNextCall w i s call → s.at ≡ db → call.commit ≡ changes → ids_taken call.reply ≡ ids → CanMake (database_of db w.home w.away) changes ids
-call_makes w i s call db changes ids sound read there next at commit taken =
-    let fits = subst (λ d. IsFit d s.pending call) (database_is s.at w) next.fits in
-    let before = made_before s.at w read in
-    let few = read.readings_few in
-    let make = can_make (database_of s.at w.home w.away) s.pending call fits (own_groups w.home w.away w.sessions i w.moment w.readings s sound there) (omega (arith, before, few)) in
-    subst (λ n. CanMake (database_of db w.home w.away) changes n) taken (subst (λ cs. CanMake (database_of db w.home w.away) cs (ids_taken call.reply)) commit (subst (λ x. CanMake (database_of x w.home w.away) call.commit (ids_taken call.reply)) at make))
+asked_early : (scripts : List SessionScript) (i n : ℕ) (statement : Statement) (o : Option SessionScript) → slice_get scripts i ≡ o → AreScripts scripts → statement_of o n ≡ Some statement → n < 2 ^ 31
+asked_early scripts i n statement None there are e = absurd (none-some statement e)
+asked_early scripts i n statement (Some script) there are e =
+    let lt = slice_get_within script.statements n statement e in
+    let few = script_few scripts i script there in
+    let most = few_statements scripts are.within in
+    omega (arith, lt, few, most)
 
-commits_most : (cs : List Change) (b : Bool) → (if b then 0 else 1) ≤ 1
-commits_most cs true = omega arith
-commits_most cs false = omega arith
+-- a session that goes on has not called many
+pub next_early : (w : World) (i : ℕ) (s : Session) (statement : Statement) → AreScripts w.scripts → next_statement w i s ≡ Some statement → s.next < 2 ^ 31
+next_early w i s statement are next = asked_early w.scripts i s.next statement (slice_get w.scripts i) refl are next
 
-home_after : (db : DbId) (w : World) (hm aw : Database) → IsRead w → (database_of db hm aw).made ≤ (database_of db w.home w.away).made + 1 → database_of (other_db db) hm aw ≡ database_of (other_db db) w.home w.away → hm.made ≤ w.readings
-home_after Home w hm aw read most other = let before = read.home_before in omega (arith, before, most)
-home_after Away w hm aw read most other = let before = read.home_before in let same : hm.made ≡ w.home.made = ap (λ d. d.made) other in omega (arith, before, same)
+-- ---- who calls
 
-away_after : (db : DbId) (w : World) (hm aw : Database) → IsRead w → (database_of db hm aw).made ≤ (database_of db w.home w.away).made + 1 → database_of (other_db db) hm aw ≡ database_of (other_db db) w.home w.away → aw.made ≤ w.readings
-away_after Away w hm aw read most other = let before = read.away_before in omega (arith, before, most)
-away_after Home w hm aw read most other = let before = read.away_before in let same : aw.made ≡ w.away.made = ap (λ d. d.made) other in omega (arith, before, same)
+pub caller_in : (c : Caller) (w : World) (s : Session) → slice_get w.sessions c.actor ≡ Some s → session_of c.session.now ≡ unmarked s → AllZip IsStateOf c.sessions.now w.sessions → AreMarks c.session.now.at w.sessions c.locks.now
+    → database_at c.session.now.at w ≡ c.database.now → w.moment ≡ c.moment → slot_sent w ≡ c.sent → IsCallerIn c w s
+caller_in c w s there is states marks database moment sent = let at : s.at ≡ c.session.now.at = ap (λ t. t.at) (sym is) in record {
+  there = there;
+  state = state_of c.session.now s is;
+  states = states;
+  marks = subst (λ db. AreMarks db w.sessions c.locks.now) (sym at) marks;
+  database = ap (λ db. database_at db w) at ∙ database;
+  moment = moment;
+  sent = sent;
+}
 
--- the session after the call
-abbrev pub calling : Holdings → NewPositions → ℕ → ℕ → Session → Session
-calling h positions home away s = after_call positions home away (holding h s)
+pub may_call : (c : Caller) (w : World) (s : Session) (statement : Statement) → IsCallerIn c w s → IsSound w → next_statement w c.actor s ≡ Some statement → MayCall c statement
+may_call c w s statement is sound next = record {
+  world = w;
+  session = s;
+  is = is;
+  sound = sound;
+  within = (asked (past w) c.actor s statement sound.valid.scripts next).0;
+  early = let few = next_early w c.actor s statement sound.valid.scripts next in omega (arith, few);
+}
 
-pub call_sound : (w : World) (i : ℕ) (s : Session) (call : CallEffect) (hm aw : Database) (home away : ℕ) → IsSound w.home w.away w.sessions w.moment w.readings → IsRead w → slice_get w.sessions i ≡ Some s
-    → IsNextCall w i s call
-    → database_of s.at hm aw ≡ with_ids (ids_taken call.reply) (committed call.commit w.moment (database_of s.at w.home w.away))
-    → database_of (other_db s.at) hm aw ≡ database_of (other_db s.at) w.home w.away
-    → ((g : ℕ) → (database_of s.at w.home w.away).tables.transaction ≤ g → All (IsWithin ((database_of s.at w.home w.away).next + ids_taken call.reply) g ((database_of s.at w.home w.away).made + 1)) call.commit
-    → (database_of s.at hm aw).tables.transaction ≤ g)
-    → IsSound hm aw (changed_at i (calling call.holdings call.positions home away) w.sessions) w.moment w.readings
-call_sound w i s call hm aw home away sound read there next database other transaction =
-    let d = database_of s.at w.home w.away in
-    let fits = subst (λ x. IsFit x s.pending call) (database_is s.at w) next.fits in
-    let ids = ids_taken call.reply in
-    let g = d.tables.transaction + (additions_of s.pending + ids - additions_of (pending_after call.holdings s.pending)) in
-    let made : (database_of s.at hm aw).made ≡ d.made + commits_in call.commit = ap (λ x. x.made) database in
-    let most = commits_most call.commit (length call.commit == 0) in
-    let most_made : (database_of s.at hm aw).made ≤ d.made + 1 = omega (arith, made, most) in
-    sound_called w.home w.away hm aw (calling call.holdings call.positions home away) w.sessions i w.moment w.readings s call.holdings ids sound there refl refl refl refl
-    (record { next_is = ap (λ x. x.next) database; transaction_most = transaction g (omega arith) fits.within; added = fits.added }) other
-    (home_after s.at w hm aw read most_made other) (away_after s.at w hm aw read most_made other) fits.below fits.few
-
-committed-none : (moment : ℕ) (d : Database) → committed [] moment d ≡ d
-committed-none moment d = let e : d.made + 0 ≡ d.made = omega arith in ap (λ n. record d { made = n }) e
-
-pub call_is : (db : DbId) (w : World) (i : ℕ) (s : Session) (call : CallEffect) (hm aw : Database) (entries : List Entry) → s.at ≡ db
-    → database_of db hm aw ≡ with_ids (ids_taken call.reply) (committed call.commit w.moment (database_of db w.home w.away))
-    → database_of (other_db db) hm aw ≡ database_of (other_db db) w.home w.away
-    → entries ≡ w.entries ++ entry_of i w (at_home db call.commit) (at_away db call.commit) (Call (s.next + 1) call.reply) ∷ []
-    → record w { home = hm; away = aw; sessions = slice_set w.sessions i (calling call.holdings call.positions hm.made aw.made s); entries = entries } ≡ called i s call.reply call.commit (done_by call s) w
-unfolding stepped
-call_is Home w i s call hm aw entries at database other added = rw (at, added, database, other ∙ sym (committed-none w.moment w.away)) refl
-call_is Away w i s call hm aw entries at database other added = rw (at, added, database, other ∙ sym (committed-none w.moment w.home)) refl
-
--- ---- what is called next
-
-asked_more : (o : Option SessionScript) (n : ℕ) (statement : Statement) → statement_of o n ≡ Some statement → n + 1 ≤ asked_by o
-asked_more None n statement e = absurd (let no : None ≡ Some statement = e in cc)
-asked_more (Some script) n statement e = let lt = slice_get_within script.statements n statement e in omega (arith, lt)
-
-asked_few : (scripts : List SessionScript) (i : ℕ) (o : Option SessionScript) → slice_get scripts i ≡ o → All IsShortScript scripts → asked_by o ≤ 2 ^ 31
-asked_few scripts i None there short = omega arith
-asked_few scripts i (Some script) there short =
-    let is = get_or_from_slice_get scripts i script script there in
-    let few : IsShortScript script = subst IsShortScript is (short i script (slice_get_within scripts i script there)) in
-    omega (arith, few)
+-- ---- that it can call
 
 -- the locks of a database are known by the marks of its sessions
 same_marks : (db : DbId) (ss : List Session) (l k : List SessionMarks) (i : ℕ) → AreMarks db ss l → AreMarks db ss k → marks_of l i ≡ marks_of k i
@@ -175,61 +126,53 @@ free_same db ss l k i mark a b free = record {
   group = λ other ne. subst (λ marks. has_any_group mark.group marks ≡ false) (same_marks db ss l k other a b) (free.group other ne);
 }
 
-pub free_in : (w : World) (i : ℕ) (s : Session) (l : List SessionMarks) (mark : Mark) → slice_get w.sessions i ≡ Some s → AreMarks s.at w.sessions l → IsFreeFor l i mark → IsFreeIn i mark w.sessions
+free_in : (w : World) (i : ℕ) (s : Session) (l : List SessionMarks) (mark : Mark) → slice_get w.sessions i ≡ Some s → AreMarks s.at w.sessions l → IsFreeFor l i mark → IsFreeIn i mark w.sessions
 free_in w i s l mark there marks free =
-    some_of (λ t. (locks : List SessionMarks) → AreMarks t.at w.sessions locks → IsFreeFor locks i mark) (slice_get w.sessions i) s there (λ k also. free_same s.at w.sessions l k i mark marks also free)
+    subst (λ o. IfSome o (λ t. (locks : List SessionMarks) → AreMarks t.at w.sessions locks → IsFreeFor locks i mark)) (sym there) (λ k also. free_same s.at w.sessions l k i mark marks also free)
 
-pub next_is : (w : World) (i : ℕ) (s : Session) (statement : Statement) (call : CallEffect) (l : List SessionMarks) → All IsShortScript w.scripts → slice_get w.sessions i ≡ Some s → AreMarks s.at w.sessions l
-    → next_statement w i s ≡ Some statement → meaning w i s statement ≡ call_meant call s → IsFit (database_at s.at w) s.pending call → IsLater call → IfSome (mark_of call.holdings) (IsFreeFor l i)
-    → IsNextCall w i s call
-next_is w i s statement call l short there marks next means fits later free = record {
+free_of : (w : World) (i : ℕ) (s : Session) (l : List SessionMarks) (mark : Option Mark) → slice_get w.sessions i ≡ Some s → AreMarks s.at w.sessions l → IfSome mark (IsFreeFor l i) → IfSome mark (λ m. IsFreeIn i m w.sessions)
+free_of w i s l None there marks free = _
+free_of w i s l (Some mark) there marks free = free_in w i s l mark there marks free
+
+-- what is done and not committed comes with no commit
+later_by : (h : Holdings) (s : Session) (call : CallEffect) → call.holdings ≡ h → Pends s call.reply call.commit (done_by call s) → IsLater call
+later_by Cleared s call is so = rw is tt
+later_by (Kept None mark unmark) s call is so = rw is tt
+later_by (Kept (Some p) mark unmark) s call is so =
+    let now : (done_by call s).pending ≡ s.pending ++ p ∷ [] = ap (λ h. pending_after h s.pending) is in
+    let n = length-append s.pending (p ∷ []) in
+    rw is (elim so [
+      | inl e ↦ let m = ap length (sym now ∙ e) in absurd (omega (arith, n, m))
+      | inr more ↦ elim more [
+        | inl e ↦ let m = ap length (sym now ∙ e) in absurd (omega (arith, n, m))
+        | inr one ↦ one.later
+      ]
+    ])
+
+taken_most : (reply : Reply) → ids_taken reply ≤ 1
+taken_most (replies.Enqueued id) = omega arith
+taken_most _ = omega arith
+
+call_can : (w : World) (i : ℕ) (s : Session) (statement : Statement) (call : CallEffect) (l : List SessionMarks) → IsSound w → slice_get w.sessions i ≡ Some s → AreMarks s.at w.sessions l → next_statement w i s ≡ Some statement
+    → meaning w i s statement ≡ call_meant call s → IfSome (mark_of call.holdings) (IsFreeFor l i) → IsCallable w i s call
+call_can w i s statement call l sound there marks next means free = record {
+  early = let few = next_early w i s statement sound.valid.scripts next in omega (arith, few);
+  ids = let most = (sound.valid.databases s.at).most in let one = taken_most call.reply in omega (arith, most, one);
+  later = later_by call.holdings s call refl (answered_so w i s statement call.reply call.commit (done_by call s) sound.valid means);
+  free = free_of w i s l (mark_of call.holdings) there marks free;
+}
+
+can_do : (w : World) (i : ℕ) (s : Session) (statement : Statement) (doing : Doing) (l : List SessionMarks) → IsSound w → slice_get w.sessions i ≡ Some s → AreMarks s.at w.sessions l → next_statement w i s ≡ Some statement
+    → meaning w i s statement ≡ doing_meant doing s → IfSome (mark_in doing) (IsFreeFor l i) → CanDo w i s doing
+can_do w i s statement (Call call) l sound there marks next means free = call_can w i s statement call l sound there marks next means free
+can_do w i s statement (Wait since) l sound there marks next means free = let few = next_early w i s statement sound.valid.scripts next in omega (arith, few)
+
+-- what the session does next, as it was found
+pub next_means : (c : Caller) (w : World) (s : Session) (statement : Statement) (doing : Doing) → IsCallerIn c w s → IsSound w → next_statement w c.actor s ≡ Some statement → meaning w c.actor s statement ≡ doing_meant doing s → IsFreeDoing c doing
+    → Means w c.actor s doing
+next_means c w s statement doing is sound next means free = record {
   statement = statement;
   next = next;
   means = means;
-  left = asked_more (slice_get w.scripts i) s.next statement next;
-  most = asked_few w.scripts i (slice_get w.scripts i) refl short;
-  fits = fits;
-  later = later;
-  free = room_then (mark_of call.holdings) (λ m h. free_in w i s l m there marks h) free;
+  can = can_do w c.actor s statement doing c.locks.now sound is.there is.marks next means free;
 }
-
--- ---- a call as its world's parts say it
-
--- the session that was found, and what it does next
-pub next_of : (w v : World) (i : ℕ) (session : Session) (call : CallEffect) → w ≡ v → option_map unmarked (Some session) ≡ option_map unmarked (slice_get w.sessions i) → IfSome (slice_get v.sessions i) (λ t. IsNextCall v i t call)
-    → (s : Session) × (slice_get w.sessions i ≡ Some s) × (unmarked session ≡ unmarked s) × (IsNextCall w i s call)
-next_of w v i session call same is next =
-    let s = session_there (slice_get w.sessions i) session is in
-    (s.0, s.1, s.2, of_some (λ t. IsNextCall w i t call) (slice_get w.sessions i) s.0 s.1 (subst (λ x. IfSome (slice_get x.sessions i) (λ t. IsNextCall x i t call)) (sym same) next))
-
-pub call_sound_at : (w : World) (i : ℕ) (s : Session) (call : CallEffect) (db : DbId) (changes : List Change) (ids : ℕ) (hm aw : Database) (home away : ℕ) → IsSound w.home w.away w.sessions w.moment w.readings → IsRead w
-    → slice_get w.sessions i ≡ Some s → IsNextCall w i s call → s.at ≡ db → call.commit ≡ changes → ids_taken call.reply ≡ ids
-    → database_of db hm aw ≡ with_ids ids (committed changes w.moment (database_of db w.home w.away))
-    → database_of (other_db db) hm aw ≡ database_of (other_db db) w.home w.away
-    → ((g : ℕ) → (database_of db w.home w.away).tables.transaction ≤ g → All (IsWithin ((database_of db w.home w.away).next + ids) g ((database_of db w.home w.away).made + 1)) changes → (database_of db hm aw).tables.transaction ≤ g)
-    → IsSound hm aw (changed_at i (calling call.holdings call.positions home away) w.sessions) w.moment w.readings
-call_sound_at w i s call db changes ids hm aw home away sound read there next at commit taken =
-    let Claim : DbId → List Change → ℕ → Type 0 = λ x cs n.
-    database_of x hm aw ≡ with_ids n (committed cs w.moment (database_of x w.home w.away)) → database_of (other_db x) hm aw ≡ database_of (other_db x) w.home w.away
-    → ((g : ℕ) → (database_of x w.home w.away).tables.transaction ≤ g → All (IsWithin ((database_of x w.home w.away).next + n) g ((database_of x w.home w.away).made + 1)) cs → (database_of x hm aw).tables.transaction ≤ g)
-    → IsSound hm aw (changed_at i (calling call.holdings call.positions home away) w.sessions) w.moment w.readings in
-    subst (λ x. Claim x changes ids) at (subst (λ cs. Claim s.at cs ids) commit (subst (Claim s.at call.commit) taken (call_sound w i s call hm aw home away sound read there next)))
-
-pub run_called : (w : World) (i : ℕ) (s : Session) (call : CallEffect) (db : DbId) (hm aw : Database) (entry : Entry) (before entries : List Entry) (sessions : List Session) (ids home away : ℕ)
-    → slice_get w.sessions i ≡ Some s → s.at ≡ db → ids_taken call.reply ≡ ids → w.entries ≡ map uncounted before → entries ≡ before ++ entry ∷ []
-    → uncounted entry ≡ entry_of i w (at_home db call.commit) (at_away db call.commit) (Call (s.next + 1) call.reply) → call.commit ≡ changes_at db entry → home ≡ hm.made → away ≡ aw.made
-    → sessions ≡ changed_at i (calling call.holdings call.positions home away) w.sessions
-    → database_of db hm aw ≡ with_ids ids (committed (changes_at db entry) w.moment (database_of db w.home w.away))
-    → database_of (other_db db) hm aw ≡ database_of (other_db db) w.home w.away
-    → record w { home = hm; away = aw; sessions = sessions; entries = map uncounted entries } ≡ called i s call.reply call.commit (done_by call s) w
-run_called w i s call db hm aw entry before entries sessions ids home away there at taken were added is commit made_home made_away now database other =
-    let f = calling call.holdings call.positions hm.made aw.made in
-    let now_set : sessions ≡ slice_set w.sessions i (f s) =
-    now ∙ ap (λ n. changed_at i (calling call.holdings call.positions n away) w.sessions) made_home
-    ∙ ap (λ n. changed_at i (calling call.holdings call.positions hm.made n) w.sessions) made_away ∙ changed_there f w.sessions i s there in
-    let entries_are : map uncounted entries ≡ w.entries ++ entry_of i w (at_home db call.commit) (at_away db call.commit) (Call (s.next + 1) call.reply) ∷ [] =
-    ap (map uncounted) added ∙ map-append uncounted before (entry ∷ []) ∙ ap (λ es. es ++ uncounted entry ∷ []) (sym were) ∙ ap (λ e. w.entries ++ e ∷ []) is in
-    let database_now : database_of db hm aw ≡ with_ids (ids_taken call.reply) (committed call.commit w.moment (database_of db w.home w.away)) =
-    database ∙ ap (λ cs. with_ids ids (committed cs w.moment (database_of db w.home w.away))) (sym commit) ∙ ap (λ n. with_ids n (committed call.commit w.moment (database_of db w.home w.away))) (sym taken) in
-    ap (λ ss. record w { home = hm; away = aw; sessions = ss; entries = map uncounted entries }) now_set
-    ∙ call_is db w i s call hm aw (map uncounted entries) at database_now other entries_are

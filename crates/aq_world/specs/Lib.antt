@@ -1,9 +1,5 @@
-pub mod Administering
-pub mod CallEffects
-pub mod CallEntries
-pub mod DiskCalls
-pub mod Locks
-pub mod Progress
-pub mod Sessions
+pub mod Calling
+pub mod Sendings
 pub mod Sound
+pub mod Stepping
 pub mod Turning

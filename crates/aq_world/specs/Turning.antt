@@ -1,9 +1,14 @@
--- The turns of actors: sessions by their numbers, the timer (64) and the propagator (65).
-use Rattle.std.specs.Prelude.{◌≡◌, ◌⊎◌, ◌&&◌, ◌<◌, ℕ, Bool, true, false, not, nat_lt, length, Option, Some, None, is_none, is_some, slice_get, if◌then◌else◌}
-use Rattle.queue_rows.specs.Session.{Session}
-use Rattle.queue_rows.specs.World.{World}
-use Rattle.queue_rows.specs.Turns.{session_turn, background_turn, any_live, read_next, flushed}
-use Rattle.aq_world.specs.Progress.{HearsReply}
+-- The turns of actors: sessions by their numbers, the timer (64) and the propagator (65); and how each ends.
+use Rattle.std.specs.Prelude.{◌≡◌, ◌⊎◌, ◌&&◌, ◌||◌, ◌==◌, ◌<◌, ℕ, Bool, true, false, not, nat_lt, length, Option, Some, None, is_none, is_some, option_map, slice_get, if◌then◌else◌}
+use Rattle.queue_rows.specs.Order.{IsFront}
+use Rattle.queue_rows.specs.Session.{Session, Untold}
+use Rattle.queue_rows.specs.Meaning.{Meaning, answers, parks}
+use Rattle.run_laws.specs.Statements.{meaning, next_statement}
+use Rattle.run_laws.specs.Sending.{next_sending}
+use Rattle.run_laws.specs.World.{World, read_clock}
+use Rattle.run_laws.specs.Turns.{session_turn, timer_turn, propagator_turn, any_live, is_due, caught_up, begun, flushed, drained, next_reading}
+use Rattle.run_laws.specs.ValidRun.{IsValidWorld}
+use Rattle.run_state.specs.Entries.{IsUntold}
 use Rattle.aq_world.specs.declared.turn_end.TurnEnd.{TurnEnd}
 use Rattle.aq_world.specs.declared.turn_end.TurnEnd.TheVariants as ends
 
@@ -14,9 +19,16 @@ is_session actor = nat_lt actor 64
 abbrev pub IsActor : World → ℕ → Type 0
 IsActor w actor = (actor < length w.sessions) ⊎ ((actor ≡ 64) ⊎ (actor ≡ 65))
 
--- the world after the actor's turn
-abbrev pub turned : ℕ → World → World
-turned actor w = if is_session actor then session_turn actor w else background_turn w
+-- the world after the actor's turn, with the reading that it takes, if it takes one
+abbrev pub turned : ℕ → ℕ → World → World
+turned reading actor w = if is_session actor then session_turn reading actor w
+    else (if actor == 64 then timer_turn reading w else propagator_turn reading w)
+
+-- the same with the next reading of the clock that counts seconds
+abbrev pub next_turned : ℕ → World → World
+next_turned actor w = turned (next_reading w) actor w
+
+-- ---- which turns take a reading
 
 -- a session that was told all, and goes on no more
 abbrev pub is_over : Option Session → Bool
@@ -27,37 +39,109 @@ is_over (Some s) = not s.live && is_none s.untold
 abbrev pub has_ended : ℕ → World → Bool
 has_ended actor w = if is_session actor then is_over (slice_get w.sessions actor) else not (any_live w)
 
+-- the session of that number is to be told the reply to what it called
+abbrev pub is_owed : Option Session → Bool
+is_owed None = false
+is_owed (Some s) = is_some s.untold
+
+-- its turn takes a reading: it has not ended, and is not to be told anything
+abbrev pub reads_clock : ℕ → World → Bool
+reads_clock actor w = not (has_ended actor w) && not (is_session actor && is_owed (slice_get w.sessions actor))
+
+-- ---- how a turn ends
+
+-- what a session would call next, as it is answered
+abbrev pub next_meaning : World → ℕ → Session → Option Meaning
+next_meaning w i s = option_map (meaning w i s) (next_statement w i s)
+
+-- a session makes its own entry, unless it waits
+abbrev pub end_by : Option Meaning → TurnEnd
+end_by None = ends.Done
+end_by (Some (answers reply cs after)) = ends.Done
+end_by (Some (parks since)) = ends.Parked
+
+abbrev pub session_end : ℕ → ℕ → Option Session → World → TurnEnd
+session_end reading i None w = ends.Ended
+session_end reading i (Some s) w = if is_some s.untold then ends.Done
+    else (if s.live then end_by (next_meaning (begun i reading w) i s) else ends.Ended)
+
+-- the timer is done where work is due
+abbrev pub timer_end : ℕ → World → TurnEnd
+timer_end reading w = if is_due (read_clock reading w) then ends.Done else ends.Idle
+
+-- the propagator is done where work is due, or a step can be made, after a flush if need be
+abbrev pub propagator_end : ℕ → World → TurnEnd
+propagator_end reading w = if is_due (read_clock reading w) || is_some (next_sending (begun 65 reading w)) then ends.Done else ends.Idle
+
+abbrev pub background_end : ℕ → ℕ → World → TurnEnd
+background_end reading actor w = if not (any_live w) then ends.Ended
+    else (if actor == 64 then timer_end reading w else propagator_end reading w)
+
+-- how the actor's turn ends, with that reading
+unfoldable pub turn_end : ℕ → ℕ → World → TurnEnd
+turn_end reading actor w = if is_session actor then session_end reading actor (slice_get w.sessions actor) w else background_end reading actor w
+
 -- the turn came to its end
 abbrev pub IsWhole : TurnEnd → Type 0
 IsWhole ends.Done = Unit {0}
 IsWhole ends.Parked = Unit {0}
 IsWhole ends.Idle = Unit {0}
 IsWhole ends.Ended = Unit {0}
-IsWhole ends.Halted = Unit {0}
+IsWhole ends.Halted = ⊥
 IsWhole ends.Memory = ⊥
 
--- the ends that turns have so far
-abbrev pub IsEnd : TurnEnd → Type 0
-IsEnd ends.Done = Unit {0}
-IsEnd ends.Parked = ⊥
-IsEnd ends.Idle = Unit {0}
-IsEnd ends.Ended = Unit {0}
-IsEnd ends.Halted = ⊥
-IsEnd ends.Memory = Unit {0}
+-- ---- turns that are broken off
 
--- the session of that number is to be told the reply to what it called
-abbrev pub is_owed : Option Session → Bool
-is_owed None = false
-is_owed (Some s) = is_some s.untold
+-- another turn was broken off: at most the clock was read, what was due was done, and commits were made durable
+abbrev pub IsUndone : ℕ → ℕ → World → World → Type 0
+IsUndone actor reading old new = (new ≡ read_clock reading old) ⊎ ((new ≡ begun actor reading old) ⊎ (new ≡ flushed actor (begun actor reading old)))
 
--- a session that was owed a reply is told it, and stays as it was else
-abbrev pub HearsReplyOwed : ℕ → World → World → Type 0
-HearsReplyOwed i old new = is_owed (slice_get old.sessions i) ≡ true → HearsReply i old new
+abbrev pub broken_if : Bool → ℕ → ℕ → World → World → Type 0
+broken_if true actor reading old new = IsUndone actor reading old new
+broken_if false actor reading old new = IsUntold actor old new
 
--- a telling was broken off: at most commits were made durable
-abbrev pub IsUntold : ℕ → World → World → Type 0
-IsUntold actor old new = (new ≡ old) ⊎ (new ≡ flushed actor old)
+-- a telling turn takes no reading
+abbrev pub IsBrokenOff : ℕ → ℕ → World → World → Type 0
+IsBrokenOff actor reading old new = broken_if (reads_clock actor old) actor reading old new
 
--- the turn was broken off: at most the clock was read, or, where a reply was to be told, commits were made durable
-abbrev pub IsBrokenOff : ℕ → World → World → Type 0
-IsBrokenOff actor old new = (new ≡ old) ⊎ ((new ≡ read_next old) ⊎ ((new ≡ flushed actor old) × (is_owed (slice_get old.sessions actor) ≡ true)))
+-- the session of that number is to be told the reply to what it called, which is its statement of that number
+pub record IsOwed (w : World) (i number : ℕ) : Type 0 where
+  pub session : Session
+  pub untold : Untold
+  pub there : slice_get w.sessions i ≡ Some session
+  pub called : session.untold ≡ Some untold
+  pub number_is : untold.number ≡ number
+
+-- the session of that number goes on, and was told what it called
+pub record IsCalling (w : World) (i : ℕ) : Type 0 where
+  pub session : Session
+  pub there : slice_get w.sessions i ≡ Some session
+  pub told : session.untold ≡ None
+  pub live : session.live ≡ true
+
+-- ---- the closing turn
+
+-- the closing turn was broken off: there are the first entries of some number of its steps
+abbrev pub IsUnclosed : World → World → Type 0
+IsUnclosed old new = (n : ℕ) × IsFront new.entries (drained n (read_clock (next_reading old) old)).entries
+
+-- a step of it was broken off: at most what was due was done, and then commits were made durable
+abbrev pub IsPartOfStep : World → World → Type 0
+IsPartOfStep old new = (new ≡ old) ⊎ IsUntold 66 (caught_up 66 old) new
+
+-- its draining was, behind so many steps
+abbrev pub IsPartDrained : World → World → Type 0
+IsPartDrained old new = (n : ℕ) × IsPartOfStep (drained n old) new
+
+-- each world to which the draining leads is valid
+abbrev pub IsDrainable : World → Type 0
+IsDrainable w = (n : ℕ) → IsValidWorld (drained n w)
+
+-- ---- how a run began
+
+-- with these databases, at this moment and for these scripts: no turn changes that
+pub record IsOfRun (old new : World) : Type 0 where
+  pub home : new.home.opening ≡ old.home.opening
+  pub away : new.away.opening ≡ old.away.opening
+  pub opening : new.opening ≡ old.opening
+  pub scripts : new.scripts ≡ old.scripts

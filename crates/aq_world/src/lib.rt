@@ -1,16 +1,12 @@
-//! The state of a run, and the turns of its actors.
+//! The world of a run, and the turns of its actors.
 #![tactic(auto)]
 
-mod admin;
-mod apply;
-mod call_effect;
-mod call_entry;
-mod locks;
+mod due_work;
+mod own_turn;
 mod respond;
-mod run_database;
-mod run_session;
-mod session_registry;
+mod sending;
 mod turn_end;
+mod turns;
 mod world;
 
 pub use turn_end::TurnEnd;

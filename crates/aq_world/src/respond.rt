@@ -1,91 +1,73 @@
 // What a session's statement does, by the kinds of statements.
-ghost use Rattle.std.specs.Prelude.{◌≡◌, ◌≤◌, ◌<◌, ◌^◌, List as Sequence, [], None, Some, All, IfOk, IfSome, length, slice_get, option_copied};
-ghost use Rattle.slot_marks.specs.Marks.{IsFreeFor};
-ghost use Rattle.built_statements.specs.Built.{IsBuilt, IsBuiltAdmin, IsPlainEnqueue, IsPlainDequeue};
-ghost use Rattle.queue_rows.specs.Session.{Session};
-ghost use Rattle.queue_rows.specs.Enqueueing.{enqueue};
-ghost use Rattle.queue_rows.specs.Dequeueing.{dequeue};
-ghost use Rattle.queue_rows.specs.Transactions.{commit, rollback};
-ghost use Rattle.queue_rows.specs.Statements.{meaning};
-ghost use Rattle.queue_rows.specs.World.{World, database_at};
-ghost use Rattle.sessions.specs.Effects.{IsAnswered};
-ghost use Rattle.sessions.specs.States.{AreMarks};
-ghost use Rattle.sessions.specs.declared.state.Verdict.TheVariants.{Answer};
+ghost use Rattle.std.specs.Prelude.{◌≡◌, ℕ, List as Sequence, Option as Optional, [], None, Some, IfOk, IfSome, option_copied};
+ghost use Rattle.queue_rows.specs.declared.statement.Statement.TheVariants as statements;
+ghost use Rattle.sessions.specs.States.{IsStateOf};
+ghost use Rattle.queue_rows.specs.Meaning.{first_look};
 ghost use Rattle.sessions.specs.declared.state.PositionMove.TheVariants.{Keep};
-ghost use Rattle.queue_rows.specs.declared.session.Position.{Position};
-ghost use Rattle.aq_world.specs.Sessions.{unmarked};
-ghost use Rattle.aq_world.specs.declared.call_effect.Holdings.TheVariants.{Cleared};
-ghost use Rattle.aq_world.specs.CallEffects.{mark_of, call_meant, AdministersAs, MeansFor, IsCallOf, IsFit, IsLater, IsPendingBelow};
+ghost use Rattle.queue_rows.specs.Session.{Session};
+ghost use Rattle.aq_world.specs.Calling.{Does, IsFreeDoing, MayCall, MeansAs, mark_in};
 
-use crate::admin::admin;
-use crate::call_effect::{CallEffect, Holdings, NewPositions};
-use crate::run_database::RunDatabase;
-use crate::run_session::RunSession;
-use dequeue_ops::dequeue_plain;
-use enqueue_ops::enqueue_plain;
+use admin_ops::admin;
+use dequeue_ops::dequeue;
+use enqueue_ops::enqueue;
+use listen_ops::listen;
 use payload_records::{List, Name};
-use queue_rows::{Admin, Dequeue, Enqueue, Reply, Statement};
+use queue_rows::{Admin, Dequeue, Enqueue, Listen, Reply, SlotRef, Statement};
 use row_locks::RowLocks;
-use sessions::{Effect, Verdict, commit_changes, rollback_changes};
+use run_state::{CallEffect, Holdings, NewPositions, RunDatabase, moved};
+use sessions::{Effect, SessionState, Verdict, commit_changes, rollback_changes};
 use std::alloc::{AllocError, Global};
 
 /// A session that calls, with what its statement may look at.
 #[derive(Clone, Copy)]
 pub struct Caller<'a> {
+    /// Where memory comes from.
+    pub alloc: Global,
     /// The session's number.
     pub actor: u32,
     /// The session.
-    pub session: &'a RunSession,
-    /// Its database.
+    pub session: &'a SessionState,
+    /// All sessions, by their numbers.
+    pub sessions: &'a List<SessionState>,
+    /// The session's database.
     pub database: &'a RunDatabase,
-    /// The marks of the sessions of its database.
+    /// The marks of the sessions of that database.
     pub locks: &'a RowLocks,
+    /// The slot that is being sent, if one is.
+    pub sent: Option<SlotRef>,
     /// The moment of the call.
     pub moment: u64,
 }
 
-fn reply_of(verdict: Verdict) -> Reply
-    requires { IsAnswered verdict }
-    ensures { verdict ≡ Answer result }
+/// What a statement does.
+#[derive(Drop)]
+pub enum Doing {
+    /// It is answered.
+    Call(CallEffect),
+    /// It waits.
+    Wait {
+        /// The moment since which it does.
+        since: u64,
+    },
+}
+
+/// The moment since which the caller waits, where it does.
+fn first_look(caller: Caller<'_>) -> u64
+    ensures { (s : Session) → IsStateOf caller.entry.session.now s
+        → result ≡ first_look s caller.entry.moment }
 {
-    match verdict {
-        Verdict::Answer(reply) => reply,
-        Verdict::Park => unreachable!(),
+    match caller.session.parked {
+        Some(since) => since,
+        None => caller.moment,
     }
 }
 
-/// The effect of a statement that asked for that queue and consumer.
-fn call_of(
-    effect: Effect,
-    session: &RunSession,
-    queue: &Name,
-    consumer: Option<&Name>,
-) -> Result<CallEffect, AllocError>
-    requires { IsAnswered effect.verdict }
-    ensures { IfOk result (IsCallOf effect queue.now (option_copied consumer.entry) session.now.positions) }
-{
-    let Effect {
-        verdict,
-        commit,
-        pend,
-        mark,
-        unmark,
-        position,
-    } = effect;
-    let positions = session.moved(position, queue, consumer)?;
-    Ok(CallEffect {
-        reply: reply_of(verdict),
-        commit,
-        holdings: Holdings::Kept { pend, mark, unmark },
-        positions,
-    })
-}
-
-/// The effect of a statement that leaves its session's positions alone.
-fn staying_call(effect: Effect) -> CallEffect
-    requires answered { IsAnswered effect.verdict }
-    requires stays { effect.position ≡ Keep }
-    ensures { (positions : Sequence Position) → IsCallOf effect [] None positions result }
+/// What an effect does that leaves its session's positions alone.
+fn staying(effect: Effect, caller: Caller<'_>) -> Doing
+    requires { effect.position ≡ Keep }
+    ensures means { (queue : Sequence ℕ) (consumer : Optional (Sequence ℕ))
+        → Does effect queue consumer caller.entry.moment caller.entry.session.now result }
+    ensures mark { IfSome (mark_in result) (λ mark. effect.mark ≡ Some mark) }
 {
     let Effect {
         verdict,
@@ -95,149 +77,160 @@ fn staying_call(effect: Effect) -> CallEffect
         unmark,
         position: _,
     } = effect;
-    CallEffect {
-        reply: reply_of(verdict),
-        commit,
-        holdings: Holdings::Kept { pend, mark, unmark },
-        positions: NewPositions::Same,
+    match verdict {
+        Verdict::Answer(reply) => Doing::Call(CallEffect {
+            reply,
+            commit,
+            holdings: Holdings::Kept { pend, mark, unmark },
+            positions: NewPositions::Same,
+        }),
+        Verdict::Park => Doing::Wait {
+            since: first_look(caller),
+        },
     }
 }
 
-fn admin_call(alloc: Global, caller: Caller<'_>, ask: &Admin) -> Result<CallEffect, AllocError>
-    requires built { IsBuiltAdmin ask.now }
-    requires below { All (IsPendingBelow caller.database.now.next) caller.session.now.pending }
-    ensures means { IfOk result (AdministersAs caller.entry.database.now.tables ask.now) }
-    ensures fits { IfOk result (IsFit caller.entry.database.now caller.entry.session.now.pending) }
-    ensures later { IfOk result IsLater }
-    ensures unmarked { IfOk result (λ d. mark_of d.holdings ≡ None) }
+/// What the effect of a statement does that asked for that queue and consumer.
+fn moving(
+    effect: Effect,
+    caller: Caller<'_>,
+    queue: &Name,
+    consumer: Option<&Name>,
+) -> Result<Doing, AllocError>
+    ensures means { IfOk result
+        (Does effect queue.now (option_copied consumer.entry) caller.entry.moment caller.entry.session.now) }
+    ensures mark { IfOk result (λ doing. IfSome (mark_in doing) (λ mark. effect.mark ≡ Some mark)) }
 {
-    let _limit = caller.database.next();
-    let effect = admin(alloc, caller.database.store(), ask)?;
-    Ok(staying_call(effect))
+    let Effect {
+        verdict,
+        commit,
+        pend,
+        mark,
+        unmark,
+        position,
+    } = effect;
+    match verdict {
+        Verdict::Answer(reply) => {
+            let positions = moved(&caller.session.positions, position, queue, consumer)?;
+            Ok(Doing::Call(CallEffect {
+                reply,
+                commit,
+                holdings: Holdings::Kept { pend, mark, unmark },
+                positions,
+            }))
+        }
+        Verdict::Park => Ok(Doing::Wait {
+            since: first_look(caller),
+        }),
+    }
 }
 
-fn enqueue_call(alloc: Global, caller: Caller<'_>, ask: &Enqueue) -> Result<CallEffect, AllocError>
-    requires plain { IsPlainEnqueue ask.now }
-    requires moment { caller.moment ≤ 2 ^ 62 }
-    requires below { All (IsPendingBelow caller.database.now.next) caller.session.now.pending }
-    ensures means { IfOk result (MeansFor caller.entry.session.now (λ s.
-        enqueue caller.entry.database.now.tables s ask.now
-        caller.entry.database.now.next caller.entry.moment)) }
-    ensures fits { IfOk result (IsFit caller.entry.database.now caller.entry.session.now.pending) }
-    ensures later { IfOk result IsLater }
-    ensures unmarked { IfOk result (λ d. mark_of d.holdings ≡ None) }
+fn admin_call(caller: Caller<'_>, ask: &Admin) -> Result<Doing, AllocError>
+    requires { MayCall caller (statements.Admin ask.now) }
+    ensures means { IfOk result (MeansAs caller.entry (statements.Admin ask.now)) }
+    ensures unmarked { IfOk result (λ doing. mark_in doing ≡ None) }
 {
-    let effect = enqueue_plain(
-        alloc,
+    let effect = admin(
+        caller.alloc,
         caller.database.store(),
-        caller.session.state(),
+        caller.session.at,
+        caller.locks,
+        caller.sessions,
+        caller.sent.as_ref(),
+        ask,
+        caller.moment,
+    )?;
+    Ok(staying(effect, caller))
+}
+
+fn enqueue_call(caller: Caller<'_>, ask: &Enqueue) -> Result<Doing, AllocError>
+    requires { MayCall caller (statements.Enqueue ask.now) }
+    ensures means { IfOk result (MeansAs caller.entry (statements.Enqueue ask.now)) }
+    ensures unmarked { IfOk result (λ doing. mark_in doing ≡ None) }
+{
+    let effect = enqueue(
+        caller.alloc,
+        caller.database.store(),
+        caller.session,
         caller.database.next(),
         ask,
         caller.moment,
     )?;
-    call_of(effect, caller.session, &ask.queue, None)
+    moving(effect, caller, &ask.queue, None)
 }
 
-fn dequeue_call(alloc: Global, caller: Caller<'_>, ask: &Dequeue) -> Result<CallEffect, AllocError>
-    requires plain { IsPlainDequeue ask.now }
-    requires moment { caller.moment ≤ 2 ^ 62 }
-    requires unparked { caller.session.now.parked ≡ None }
-    requires below { All (IsPendingBelow caller.database.now.next) caller.session.now.pending }
-    ensures means { IfOk result (λ d. (sessions : Sequence Session) (s : Session)
-        → AreMarks s.at sessions caller.entry.locks.now → slice_get sessions caller.entry.actor ≡ Some s
-        → unmarked caller.entry.session.now ≡ unmarked s
-        → dequeue caller.entry.database.now.tables sessions caller.entry.actor s ask.now caller.entry.moment
-        ≡ call_meant d s) }
-    ensures fits { IfOk result (IsFit caller.entry.database.now caller.entry.session.now.pending) }
-    ensures later { IfOk result IsLater }
-    ensures free { IfOk result (λ d.
-        IfSome (mark_of d.holdings) (IsFreeFor caller.entry.locks.now caller.entry.actor)) }
+fn dequeue_call(caller: Caller<'_>, ask: &Dequeue) -> Result<Doing, AllocError>
+    requires { MayCall caller (statements.Dequeue ask.now) }
+    ensures means { IfOk result (MeansAs caller.entry (statements.Dequeue ask.now)) }
+    ensures free { IfOk result (IsFreeDoing caller.entry) }
 {
-    let _limit = caller.database.next();
-    let effect = dequeue_plain(
-        alloc,
+    let effect = dequeue(
+        caller.alloc,
         caller.database.store(),
         caller.locks,
         caller.actor,
-        caller.session.state(),
+        caller.session,
         ask,
         caller.moment,
     )?;
-    call_of(effect, caller.session, &ask.queue, ask.consumer.as_ref())
+    moving(effect, caller, &ask.queue, ask.consumer.as_ref())
 }
 
-fn commit_call(caller: Caller<'_>) -> Result<CallEffect, AllocError>
-    requires moment { caller.moment ≤ 2 ^ 62 }
-    requires count { length caller.session.now.pending < 2 ^ 61 }
-    requires below { All (IsPendingBelow caller.database.now.next) caller.session.now.pending }
-    ensures means { IfOk result (MeansFor caller.entry.session.now (λ s.
-        commit caller.entry.database.now.tables s caller.entry.moment)) }
-    ensures fits { IfOk result (IsFit caller.entry.database.now caller.entry.session.now.pending) }
-    ensures clears { IfOk result (λ d. d.holdings ≡ Cleared) }
+fn listen_call(caller: Caller<'_>, ask: &Listen) -> Result<Doing, AllocError>
+    requires { MayCall caller (statements.Listen ask.now) }
+    ensures means { IfOk result (MeansAs caller.entry (statements.Listen ask.now)) }
+    ensures unmarked { IfOk result (λ doing. mark_in doing ≡ None) }
 {
-    let _limit = caller.database.next();
-    Ok(CallEffect {
+    let effect = listen(
+        caller.alloc,
+        caller.database.store(),
+        caller.locks,
+        caller.actor,
+        caller.session,
+        ask,
+        caller.moment,
+    )?;
+    Ok(staying(effect, caller))
+}
+
+fn commit_call(caller: Caller<'_>) -> Result<Doing, AllocError>
+    requires { MayCall caller statements.Commit }
+    ensures means { IfOk result (MeansAs caller.entry statements.Commit) }
+    ensures unmarked { IfOk result (λ doing. mark_in doing ≡ None) }
+{
+    Ok(Doing::Call(CallEffect {
         reply: Reply::Ok,
-        commit: commit_changes(
-            caller.database.store(),
-            caller.session.state(),
-            caller.moment,
-        )?,
+        commit: commit_changes(caller.database.store(), caller.session, caller.moment)?,
         holdings: Holdings::Cleared,
         positions: NewPositions::Same,
-    })
+    }))
 }
 
-fn rollback_call(alloc: Global, caller: Caller<'_>) -> Result<CallEffect, AllocError>
-    requires moment { caller.moment ≤ 2 ^ 62 }
-    requires made { caller.database.now.made < 2 ^ 63 }
-    ensures means { IfOk result (MeansFor caller.entry.session.now (λ s.
-        rollback caller.entry.database.now.tables s caller.entry.moment)) }
-    ensures fits { IfOk result (IsFit caller.entry.database.now caller.entry.session.now.pending) }
-    ensures clears { IfOk result (λ d. d.holdings ≡ Cleared) }
+fn rollback_call(caller: Caller<'_>) -> Result<Doing, AllocError>
+    requires { MayCall caller statements.Rollback }
+    ensures means { IfOk result (MeansAs caller.entry statements.Rollback) }
+    ensures unmarked { IfOk result (λ doing. mark_in doing ≡ None) }
 {
-    let _limit = caller.database.next();
-    Ok(CallEffect {
+    Ok(Doing::Call(CallEffect {
         reply: Reply::Ok,
-        commit: rollback_changes(
-            caller.database.store(),
-            caller.session.state(),
-            caller.moment,
-        )?,
+        commit: rollback_changes(caller.database.store(), caller.session, caller.moment)?,
         holdings: Holdings::Cleared,
-        positions: NewPositions::Others(List::new(alloc)),
-    })
+        positions: NewPositions::Others(List::new(caller.alloc)),
+    }))
 }
 
-/// What a statement of the session of that number does, where the locks keep the marks of the sessions of its database.
-#[tactic(auto, unfolding(queue_rows::specs::Statements::meaning))]
-pub fn respond(
-    alloc: Global,
-    caller: Caller<'_>,
-    statement: &Statement,
-) -> Result<CallEffect, AllocError>
-    requires built { IsBuilt statement.now }
-    requires moment { caller.moment ≤ 2 ^ 62 }
-    requires made { caller.database.now.made < 2 ^ 63 }
-    requires unparked { caller.session.now.parked ≡ None }
-    requires count { length caller.session.now.pending < 2 ^ 61 }
-    requires below { All (IsPendingBelow caller.database.now.next) caller.session.now.pending }
-    ensures means { IfOk result (λ d. (w : World) (s : Session)
-        → database_at s.at w ≡ caller.entry.database.now → w.moment ≡ caller.entry.moment
-        → AreMarks s.at w.sessions caller.entry.locks.now
-        → slice_get w.sessions caller.entry.actor ≡ Some s → unmarked caller.entry.session.now ≡ unmarked s
-        → meaning w caller.entry.actor s statement.now ≡ call_meant d s) }
-    ensures fits { IfOk result (IsFit caller.entry.database.now caller.entry.session.now.pending) }
-    ensures later { IfOk result IsLater }
-    ensures free { IfOk result (λ d.
-        IfSome (mark_of d.holdings) (IsFreeFor caller.entry.locks.now caller.entry.actor)) }
+/// What a statement of that session does, where the locks keep the marks of the sessions of its database.
+pub fn respond(caller: Caller<'_>, statement: &Statement) -> Result<Doing, AllocError>
+    requires { MayCall caller statement.now }
+    ensures means { IfOk result (MeansAs caller.entry statement.now) }
+    ensures free { IfOk result (IsFreeDoing caller.entry) }
 {
     match statement {
-        Statement::Admin(ask) => admin_call(alloc, caller, ask),
-        Statement::Enqueue(ask) => enqueue_call(alloc, caller, ask),
-        Statement::Dequeue(ask) => dequeue_call(alloc, caller, ask),
+        Statement::Admin(ask) => admin_call(caller, ask),
+        Statement::Enqueue(ask) => enqueue_call(caller, ask),
+        Statement::Dequeue(ask) => dequeue_call(caller, ask),
+        Statement::Listen(ask) => listen_call(caller, ask),
         Statement::Commit => commit_call(caller),
-        Statement::Rollback => rollback_call(alloc, caller),
-        Statement::Listen(_) => unreachable!(),
+        Statement::Rollback => rollback_call(caller),
     }
 }

@@ -1,31 +1,24 @@
-use Rattle.std.proofs.Common.{◌≡◌, ◌≤◌, ◌+◌, ◌^◌, [], None, All, refl, sym, subst, ap, ◌∙◌, arith}
-use Rattle.queue_rows.specs.Meaning.{answers}
-use Rattle.queue_rows.specs.Commits.{commit_of}
-use Rattle.queue_rows.specs.Transactions.{commit}
-use Rattle.queue_rows.specs.declared.reply.Reply.TheVariants as replies
-use Rattle.sessions.specs.Within.{IsPendingWithin}
-use Rattle.aq_world.specs.CallEffects.{additions_of}
-use Rattle.aq_world.specs.declared.call_effect.NewPositions.TheVariants.{Same}
-use Rattle.aq_world.proofs.CallEffects.{cleared_fits, grouped_within, state_of}
+use Rattle.std.proofs.Common.{◌<◌, ◌^◌, All, sym, subst}
+use Rattle.queue_rows.specs.declared.statement.Statement.TheVariants.{Commit}
+use Rattle.sessions.specs.Numbers.{IsLowest}
+use Rattle.enqueue_ops.proofs.Numbers.{group_known, lowest_known}
+use Rattle.aq_world.proofs.Doings.{commit_meant, caller_few, caller_moment, caller_pendable, caller_valid}
 use Rattle.aq_world.proofs.respond.commit_call.Goals as goal
 
-pub returns-clause-means : goal.returns-clause-means
-unfolding commit
-returns-clause-means c = λ s session.
-    let state = state_of c.state.result.now c.args.caller.session.now s c.state.ensures session in
-    let tables = c.store.ensures.store in
-    let changes : c.in_ok-commit_changes.field-0 ≡ commit_of c.args.caller.database.now.tables c.args.caller.moment s.pending =
-    c.in_ok-commit_changes.ensures.changes ∙ ap (λ t. commit_of t c.args.caller.moment c.state.result.now.pending) tables ∙ ap (commit_of c.args.caller.database.now.tables c.args.caller.moment) (sym state.pending) in
-    ap (λ cs. answers replies.Ok cs (record s { pending = []; marks = []; parked = None })) (sym changes)
+pub commit_changes-requires-clause-moment : goal.commit_changes-requires-clause-moment
+commit_changes-requires-clause-moment c = caller_moment c.args.caller Commit c.requires
 
-pub returns-clause-fits : goal.returns-clause-fits
-returns-clause-fits c =
-    let limit : c.args.caller.database.now.next ≤ 2 ^ 61 = c.next-limit.ensures.limit in
-    let n = c.args.caller.database.now.next in
-    let t = c.args.caller.database.now.tables.transaction in
-    let g = t + additions_of c.args.caller.session.now.pending in
-    let r = c.args.caller.database.now.made + 1 in
-    let tables : t ≡ c.store.result.now.transaction = ap (λ u. u.transaction) (sym c.store.ensures.store) in
-    let pending : All (IsPendingWithin n g r t) c.args.caller.session.now.pending = grouped_within n r t g c.args.caller.session.now.pending (λ some. omega (arith, some)) c.requires.below in
-    cleared_fits c.args.caller.database.now c.args.caller.session.now.pending replies.Ok c.in_ok-commit_changes.field-0 Same refl limit
-    (c.in_ok-commit_changes.ensures.within n g r (subst (λ k. All (IsPendingWithin n g r k) c.state.result.now.pending) tables (subst (All (IsPendingWithin n g r t)) c.state.ensures.pending pending)))
+pub commit_changes-requires-clause-group : goal.commit_changes-requires-clause-group
+commit_changes-requires-clause-group c = subst (λ t. t.transaction < 2 ^ 62) (sym c.store.ensures) (group_known c.args.caller.database.now.tables (caller_valid c.args.caller Commit c.requires))
+
+pub commit_changes-requires-clause-count : goal.commit_changes-requires-clause-count
+commit_changes-requires-clause-count c = caller_few c.args.caller Commit c.requires
+
+pub commit_changes-requires-clause-lowest : goal.commit_changes-requires-clause-lowest
+commit_changes-requires-clause-lowest c = subst (λ t. All (IsLowest (2 ^ 62)) t.queues) (sym c.store.ensures) (lowest_known c.args.caller.database.now.tables (caller_valid c.args.caller Commit c.requires))
+
+pub commit_changes-requires-clause-numbers : goal.commit_changes-requires-clause-numbers
+commit_changes-requires-clause-numbers c = caller_pendable c.args.caller Commit c.requires
+
+pub returns-clause-means : goal.returns-clause-means
+returns-clause-means c = λ w s is. commit_meant c.args.caller c.store.result.now.tables c.store.ensures w s is c.in_ok-commit_changes.field-0 c.in_ok-commit_changes.ensures

@@ -1,29 +1,27 @@
-use Rattle.std.proofs.Common.{◌≡◌, ◌≤◌, ◌+◌, ◌^◌, All, IfSome, None, subst, ◌∙◌}
-use Rattle.queue_rows.specs.Enqueueing.{enqueue}
-use Rattle.sessions.specs.Effects.{ids_of}
-use Rattle.sessions.specs.Within.{IsWithin, AddsNew}
-use Rattle.aq_world.specs.CallEffects.{call_meant}
-use Rattle.aq_world.proofs.CallEffects.{if_ok, state_of, call_means, stands_there, adding_fits}
+use Rattle.std.proofs.Common.{◌≡◌, ◌≤◌, ◌^◌, None, true, sym, subst, ◌∙◌}
+use Rattle.queue_rows.specs.Valid.{is_valid}
+use Rattle.queue_rows.specs.declared.statement.Statement.TheVariants as statements
+use Rattle.aq_world.specs.Calling.{mark_in}
+use Rattle.aq_world.proofs.Doings.{if_ok, enqueue_meant, caller_moment, caller_next, caller_valid, unmarked_by}
 use Rattle.aq_world.proofs.respond.enqueue_call.Goals as goal
 
-pub returns-clause-means : goal.returns-clause-means
-returns-clause-means c = if_ok c.call_of.result c.call_of.ensures (λ d is s session.
-    let state = state_of c.state.result.now c.args.caller.session.now s c.state.ensures session in
-    let meant = c.in_ok-effect.ensures.means s state c.args.ask.now.queue None
-    ∙ call_means c.in_ok-effect.effect c.args.ask.now.queue None c.args.caller.session.now.positions d s c.args.caller.moment is (stands_there c.args.caller.session.now s session) in
-    subst (λ n. enqueue c.args.caller.database.now.tables s c.args.ask.now n c.args.caller.moment ≡ call_meant d s) c.next.ensures.next
-    (subst (λ t. enqueue t s c.args.ask.now c.next.result c.args.caller.moment ≡ call_meant d s) c.store.ensures.store meant))
+pub enqueue-requires-clause-valid : goal.enqueue-requires-clause-valid
+enqueue-requires-clause-valid c = subst (λ t. is_valid t ≡ true) (sym c.store.ensures) (caller_valid c.args.caller (statements.Enqueue c.args.ask.now) c.requires)
 
-pub returns-clause-fits : goal.returns-clause-fits
-returns-clause-fits c = if_ok c.call_of.result c.call_of.ensures (λ d is.
-    let database = c.args.caller.database.now in
-    let e = c.in_ok-effect.effect in
-    let ids = ids_of e.verdict in
-    let next = c.next.ensures.next in
-    let within = subst (λ t. All (IsWithin (c.next.result + ids) (t.transaction + ids) (database.made + 1)) e.commit) c.store.ensures.store (c.in_ok-effect.ensures.within (database.made + 1)) in
-    adding_fits database c.args.caller.session.now.pending e c.args.ask.now.queue None c.args.caller.session.now.positions d is
-    (subst (λ n. IfSome e.pend (AddsNew n)) next c.in_ok-effect.ensures.adds)
-    c.in_ok-effect.ensures.later
-    (subst (λ n. n + ids ≤ 2 ^ 61) next c.in_ok-effect.ensures.limit)
-    (subst (λ n. All (IsWithin (n + ids) (database.tables.transaction + ids) (database.made + 1)) e.commit) next within)
-    c.requires.below)
+pub enqueue-requires-clause-within : goal.enqueue-requires-clause-within
+enqueue-requires-clause-within c = c.requires.within
+
+pub enqueue-requires-clause-next : goal.enqueue-requires-clause-next
+enqueue-requires-clause-next c = subst (λ n. n ≤ 2 ^ 61) (sym c.next.ensures) (caller_next c.args.caller (statements.Enqueue c.args.ask.now) c.requires)
+
+pub enqueue-requires-clause-moment : goal.enqueue-requires-clause-moment
+enqueue-requires-clause-moment c = caller_moment c.args.caller (statements.Enqueue c.args.ask.now) c.requires
+
+pub returns-clause-means : goal.returns-clause-means
+returns-clause-means c = if_ok c.moving.result c.moving.ensures.means (λ d does w s is.
+    let ask = c.args.ask.now in
+    enqueue_meant c.args.caller c.store.result.now.tables c.store.ensures c.in_ok-effect.effect w s is c.next.result ask ask.queue None c.next.ensures c.in_ok-effect.ensures.means
+    ∙ does s is.state)
+
+pub returns-clause-unmarked : goal.returns-clause-unmarked
+returns-clause-unmarked c = if_ok c.moving.result c.moving.ensures.mark (λ d is. unmarked_by (mark_in d) c.in_ok-effect.effect.mark is c.in_ok-effect.ensures.unmarked)

@@ -1,0 +1,113 @@
+-- Turns of the world, whole and broken off.
+use Rattle.std.proofs.Common.{◌≡◌, ◌<◌, ◌⊎◌, inl, inr, ℕ, Bool, true, false, Option, Some, None, refl, sym, subst}
+use Rattle.std.specs.Prelude.{slice_get, is_some}
+use Rattle.std.proofs.lemmas.Bool.{lt-ltb}
+use Rattle.queue_rows.specs.Session.{Session, Untold}
+use Rattle.run_laws.specs.World.{World, read_clock}
+use Rattle.run_laws.specs.Turns.{next_reading, begun, flushed, session_turn, telling_turn, telling_of, telling_of_some, turn_of, turn_of_some, drained, closing_turn}
+use Rattle.run_laws.specs.Serial.{next_session_turn, at_closing, next_closing_turn}
+use Rattle.aq_world.specs.Turning.{next_turned, reads_clock, is_owed, IsBrokenOff, IsUndone, broken_if, IsOfRun, IsWhole}
+use Rattle.aq_world.specs.declared.turn_end.TurnEnd.{TurnEnd}
+use Rattle.aq_world.specs.declared.turn_end.TurnEnd.TheVariants as ends
+use Rattle.aq_run.specs.Rounds.{IsClosed}
+use Rattle.aq_world.proofs.OfRun.{of_run-refl, of_run-trans, of_run-along, of_run-read, of_run-begun, of_run-flushed, of_run-drained, of_run-session_turn, of_run-timer_turn, of_run-propagator_turn}
+
+-- ---- whose turn it is
+
+pub turned_session : (i : ℕ) (w : World) → i < 64 → next_turned i w ≡ next_session_turn i w
+turned_session i w lt = rw (lt-ltb i 64 lt) refl
+
+-- ---- how it ended
+
+-- a turn came to its end, or was broken off
+pub by_end : {P : Type 0} (end : TurnEnd) → (IsWhole end → P) → ((IsWhole end → ⊥) → P) → P
+by_end ends.Done whole broken = whole _
+by_end ends.Parked whole broken = whole _
+by_end ends.Idle whole broken = whole _
+by_end ends.Ended whole broken = whole _
+by_end ends.Halted whole broken = broken (λ never. never)
+by_end ends.Memory whole broken = broken (λ never. never)
+
+-- ---- how the run began
+
+undone_run : (actor reading : ℕ) (old new : World) → IsUndone actor reading old new → IsOfRun old new
+undone_run actor reading old new (inl read) = of_run-along old (read_clock reading old) new read (of_run-read reading old)
+undone_run actor reading old new (inr (inl began)) = of_run-along old (begun actor reading old) new began (of_run-begun actor reading old)
+undone_run actor reading old new (inr (inr flush)) =
+    let v = begun actor reading old in
+    of_run-along old (flushed actor v) new flush (of_run-trans old v (flushed actor v) (of_run-begun actor reading old) (of_run-flushed actor v))
+
+untold_run : (actor : ℕ) (old new : World) → (new ≡ old) ⊎ (new ≡ flushed actor old) → IsOfRun old new
+untold_run actor old new (inl same) = of_run-along old old new same (of_run-refl old)
+untold_run actor old new (inr flush) = of_run-along old (flushed actor old) new flush (of_run-flushed actor old)
+
+broken_by : (actor reading : ℕ) (old new : World) (b : Bool) → broken_if b actor reading old new → IsOfRun old new
+broken_by actor reading old new true broken = undone_run actor reading old new broken
+broken_by actor reading old new false broken = untold_run actor old new broken
+
+broken_run : (actor reading : ℕ) (old new : World) → IsBrokenOff actor reading old new → IsOfRun old new
+broken_run actor reading old new broken = broken_by actor reading old new (reads_clock actor old) broken
+
+pub turn_run : (actor : ℕ) (old new : World) (end : TurnEnd) → IsOfRun old (next_turned actor old) → (IsWhole end → new ≡ next_turned actor old)
+    → ((IsWhole end → ⊥) → (end ≡ ends.Memory) × IsBrokenOff actor (next_reading old) old new) → IsOfRun old new
+turn_run actor old new end turned whole broken =
+    by_end end (λ is. of_run-along old (next_turned actor old) new (whole is) turned) (λ no. broken_run actor (next_reading old) old new (broken no).1)
+
+pub session_run : (i : ℕ) (old : World) → i < 64 → IsOfRun old (next_turned i old)
+session_run i old lt = of_run-along old (next_session_turn i old) (next_turned i old) (turned_session i old lt) (of_run-session_turn (next_reading old) i old)
+
+pub timer_run : (old : World) → IsOfRun old (next_turned 64 old)
+timer_run old = of_run-timer_turn (next_reading old) old
+
+pub propagator_run : (old : World) → IsOfRun old (next_turned 65 old)
+propagator_run old = of_run-propagator_turn (next_reading old) old
+
+-- ---- the closing turn
+
+pub no_whole : {P : Type 0} (end : TurnEnd) → (end ≡ ends.Done) ⊎ (end ≡ ends.Memory) → (end ≡ ends.Memory → P) → (IsWhole end → ⊥) → P
+no_whole end (inl done) memory never = absurd (never (subst IsWhole (sym done) _))
+no_whole end (inr broken) memory never = memory broken
+
+pub is_done : {P : Type 0} (end : TurnEnd) → (end ≡ ends.Done) ⊎ (end ≡ ends.Memory) → (end ≡ ends.Done → P) → IsWhole end → P
+is_done end (inl done) whole is = whole done
+is_done end (inr broken) whole is = absurd (subst IsWhole broken is)
+
+pub either_end : {P : Type 0} (end : TurnEnd) → (end ≡ ends.Done) ⊎ (end ≡ ends.Memory) → (end ≡ ends.Done → P) → (end ≡ ends.Memory → P) → P
+either_end end (inl done) whole memory = whole done
+either_end end (inr broken) whole memory = memory broken
+
+closing_run : (steps : ℕ) (w : World) → IsOfRun w (next_closing_turn steps w)
+unfolding closing_turn
+closing_run steps w =
+    let v = at_closing w in
+    let d = drained steps v in
+    of_run-trans w v (flushed 66 d) (of_run-read (next_reading w) w) (of_run-trans v d (flushed 66 d) (of_run-drained steps v) (of_run-flushed 66 d))
+
+pub closed_run : (old new : World) → IsClosed old new → IsOfRun old new
+closed_run old new closed = of_run-along old (next_closing_turn closed.0 old) new closed.2 (closing_run closed.0 old)
+
+-- ---- a telling turn is the turn of a session that is owed a reply
+
+telling_as : (i : ℕ) (s : Session) (o : Option Untold) (w : World) → is_some o ≡ true → telling_of i s o w ≡ turn_of (next_reading w) i s o w
+telling_as i s None w e = absurd (let no : false ≡ true = e in cc)
+telling_as i s (Some u) w e = refl
+
+telling_as_some : (i : ℕ) (o : Option Session) (w : World) → is_owed o ≡ true → telling_of_some i o w ≡ turn_of_some (next_reading w) i o w
+telling_as_some i None w e = absurd (let no : false ≡ true = e in cc)
+telling_as_some i (Some s) w e = telling_as i s s.untold w e
+
+pub telling_owed : (i : ℕ) (w : World) → is_owed (slice_get w.sessions i) ≡ true → telling_turn i w ≡ next_session_turn i w
+unfolding telling_turn session_turn
+telling_owed i w e = telling_as_some i (slice_get w.sessions i) w e
+
+telling_none : (i : ℕ) (s : Session) (o : Option Untold) (w : World) → is_some o ≡ false → telling_of i s o w ≡ w
+telling_none i s None w e = refl
+telling_none i s (Some u) w e = absurd (let no : true ≡ false = e in cc)
+
+telling_none_some : (i : ℕ) (o : Option Session) (w : World) → is_owed o ≡ false → telling_of_some i o w ≡ w
+telling_none_some i None w e = refl
+telling_none_some i (Some s) w e = telling_none i s s.untold w e
+
+pub telling_rests : (i : ℕ) (w : World) → is_owed (slice_get w.sessions i) ≡ false → telling_turn i w ≡ w
+unfolding telling_turn
+telling_rests i w e = telling_none_some i (slice_get w.sessions i) w e

@@ -1,0 +1,15 @@
+-- What is said of results, by whether they are Ok.
+use Rattle.std.proofs.Common.{Result}
+use Rattle.std.specs.Prelude.{Ok, Err, OnErr, OnOk}
+
+pub on_err : {T E : Type 0} {P : Type 0} (r : Result T E) → P → OnErr r P
+on_err (Ok x) p = _
+on_err (Err e) p = p
+
+pub ok_from : {T E : Type 0} {P Q : Type 0} (r : Result T E) → OnOk r P → (P → Q) → OnOk r Q
+ok_from (Ok x) p f = f p
+ok_from (Err e) p f = _
+
+pub err_from : {T E : Type 0} {P Q : Type 0} (r : Result T E) → OnErr r P → (P → Q) → OnErr r Q
+err_from (Ok x) p f = _
+err_from (Err e) p f = f p

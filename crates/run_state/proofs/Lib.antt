@@ -1,0 +1,9 @@
+pub mod Calls
+pub mod Changing
+pub mod Leaving
+pub mod Marks
+pub mod Places
+pub mod Putting
+pub mod Results
+pub mod ShownSessions
+pub mod States

@@ -1,0 +1,6 @@
+use Rattle.std.proofs.Common.{◌≡◌, ◌++◌}
+use Rattle.run_state.specs.Sessions.{gone_in}
+use Rattle.run_state.proofs.steps.gone_queues.Given as goal
+
+abbrev pub invariant-loop-change : goal.invariant-loop-change
+invariant-loop-change l = l.names ++ gone_in l.change-iterator ≡ gone_in l.changes

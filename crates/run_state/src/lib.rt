@@ -1,0 +1,20 @@
+//! The state of a run: two databases, the sessions with their locks, and the history; and each step of it.
+#![tactic(auto)]
+
+mod call_effect;
+mod entering;
+mod holdings;
+mod locks;
+mod positions;
+mod run_database;
+mod session_registry;
+mod session_states;
+mod state;
+mod steps;
+mod transit;
+
+pub use call_effect::{CallEffect, Holdings, NewPositions};
+pub use positions::moved;
+pub use run_database::RunDatabase;
+pub use state::RunState;
+pub use transit::{Stage, Transit};
