@@ -9,6 +9,8 @@ mod kept;
 #[cfg(test)]
 mod random;
 #[cfg(test)]
+mod remote;
+#[cfg(test)]
 mod rows;
 
 pub use bound::steps_in_example;

@@ -53,7 +53,7 @@ fn any_slot(seed: &mut u32, alloc: Global) -> Result<SlotRow, Fail> {
         address,
         state: any_state(seed),
         retries: 0,
-        at: 1,
+        at: u64::from(below(seed, 20)),
         expires: None,
     })
 }

@@ -2,7 +2,6 @@
 ghost use Rattle.std.specs.Prelude.{All, IfOk, IsTrue};
 ghost use Rattle.queue_rows.specs.declared.change.Change.TheVariants.{Enqueued};
 ghost use Rattle.message_store.specs.Numbers.{HasNumbers};
-ghost use Rattle.sessions.specs.Within.{IsPlainTable, IsQueueWithin};
 
 use aq_base::DbId;
 use message_store::Store;
@@ -24,9 +23,7 @@ fn fields(alloc: Global) -> Result<RecordType, Fail> {
     Ok(RecordType::of(fields)?.ok_or("no type")?)
 }
 
-fn table_of(name: Name, fields: RecordType, columns: SortList) -> TableRow
-    ensures { IsPlainTable result }
-{
+fn table_of(name: Name, fields: RecordType, columns: SortList) -> TableRow {
     TableRow {
         name,
         fields,
@@ -37,17 +34,13 @@ fn table_of(name: Name, fields: RecordType, columns: SortList) -> TableRow
 }
 
 /// The table `t`, for one consumer and with no groups: of a number `qty`, and sorted by these columns.
-pub fn table(alloc: Global, columns: SortList) -> Result<TableRow, Fail>
-    ensures { IfOk result (λ table. IsPlainTable table) }
-{
+pub fn table(alloc: Global, columns: SortList) -> Result<TableRow, Fail> {
     let name = Name::read(alloc, "t")?;
     let fields = fields(alloc)?;
     Ok(table_of(name, fields, columns))
 }
 
-fn queue_of(name: Name, table: Name, kind: QueueKind) -> QueueRow
-    ensures { IsQueueWithin result }
-{
+fn queue_of(name: Name, table: Name, kind: QueueKind) -> QueueRow {
     QueueRow {
         name,
         table,
@@ -62,9 +55,7 @@ fn queue_of(name: Name, table: Name, kind: QueueKind) -> QueueRow
 }
 
 /// A queue of the table `t`, which takes and gives messages: five retries, no delay, and nothing is kept.
-pub fn queue(alloc: Global, name: &str, kind: QueueKind) -> Result<QueueRow, Fail>
-    ensures { IfOk result (λ queue. IsQueueWithin queue) }
-{
+pub fn queue(alloc: Global, name: &str, kind: QueueKind) -> Result<QueueRow, Fail> {
     let name = Name::read(alloc, name)?;
     let table = Name::read(alloc, "t")?;
     Ok(queue_of(name, table, kind))

@@ -1,2 +1,4 @@
+pub mod Joined
 pub mod Objects
 pub mod Plain
+pub mod Written

@@ -7,9 +7,7 @@ use Rattle.std.specs.Option.{option_copied}
 use Rattle.serde_json.specs.Data.{Data, Members, member}
 use Rattle.serde_json.specs.Find.{of_integer}
 use Rattle.serde_json.specs.Written.{number_text, compact_text, members_text, comma_if}
-use Rattle.payload_records.specs.Props.{props_json}
-use Rattle.payload_records.specs.Record.{datum_json, first_json, others, members_json}
-use Rattle.payload_records.specs.declared.props.Prop.{Prop}
+use Rattle.payload_records.specs.Record.{first_json, others, members_json}
 use Rattle.payload_records.specs.declared.kind.Field.{Field}
 use Rattle.payload_records.specs.declared.record.Datum.{Datum}
 use Rattle.transcript.specs.Record.{datum_text, member_text}
@@ -33,27 +31,19 @@ first_member : (later : Bool) (name : List ℕ) (d : Data) (ms : Members) → me
 first_member later name d ms = five_parts (comma_if later) (json_text name) (codes ":") (compact_text d) (members_text true ms)
 
 -- after one member more, what is written and what is to come are the same text
+pub goes_on_member : (out new whole : List ℕ) (later : Bool) (name : List ℕ) (d : Data) (ms : Members) → new ≡ out ++ member_text later name (compact_text d)
+    → out ++ members_text later (member name d ms) ≡ whole → new ++ members_text true ms ≡ whole
+goes_on_member out new whole later name d ms written made =
+    ap (λ t. t ++ members_text true ms) written
+    ∙ append_assoc out (member_text later name (compact_text d)) (members_text true ms)
+    ∙ ap (λ t. out ++ t) (first_member later name d ms)
+    ∙ made
+
+-- the same of a record, with a cell from an iterator
 pub goes_on : (out new whole : List ℕ) (later : Bool) (f : Field) (rest : List Field) (left after : List Datum) (cell : Option (Bor Datum)) → YieldsFirstRef (λ (cells : List Datum). cells) left cell after
     → new ≡ out ++ member_text later f.name (datum_text (option_copied cell)) → out ++ members_text later (members_json (f ∷ rest) left) ≡ whole → new ++ members_text true (members_json rest after) ≡ whole
 goes_on out new whole later f rest left after cell step written made =
     let c = next_cell left after cell step in
     let d : Data = first_json left in
-    let ms : Members = members_json rest (others left) in
     let is : new ≡ out ++ member_text later f.name (compact_text d) = written ∙ ap (λ t. out ++ member_text later f.name t) c.0 in
-    rw c.1 (
-    ap (λ t. t ++ members_text true ms) is
-    ∙ append_assoc out (member_text later f.name (compact_text d)) (members_text true ms)
-    ∙ ap (λ t. out ++ t) (first_member later f.name d ms)
-    ∙ made
-    )
-
--- the same of properties
-pub goes_on_prop : (out new whole : List ℕ) (later : Bool) (p : Prop) (rest : List Prop) → new ≡ out ++ member_text later p.name (datum_text (Some p.value))
-    → out ++ members_text later (props_json (p ∷ rest)) ≡ whole → new ++ members_text true (props_json rest) ≡ whole
-goes_on_prop out new whole later p rest written made =
-    let d : Data = datum_json p.value in
-    let ms : Members = props_json rest in
-    ap (λ t. t ++ members_text true ms) written
-    ∙ append_assoc out (member_text later p.name (compact_text d)) (members_text true ms)
-    ∙ ap (λ t. out ++ t) (first_member later p.name d ms)
-    ∙ made
+    rw c.1 (goes_on_member out new whole later f.name d (members_json rest (others left)) is made)

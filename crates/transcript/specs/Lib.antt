@@ -1,7 +1,10 @@
+pub mod Dump
 pub mod Line
+pub mod Messages
 pub mod Print
 pub mod Record
 pub mod Reply
+pub mod Rows
 pub mod Text
 pub mod Told
 pub mod Word

@@ -1,18 +1,38 @@
 -- The text of a record and of properties, member by member.
-use Rattle.std.specs.Prelude.{ℕ, ◌++◌, ◌==◌, List, [], length, codes, Bool, Option, if◌then◌else◌}
+use Rattle.std.specs.Prelude.{ℕ, ◌++◌, ◌==◌, List, [], ◌∷◌, length, codes, Bool, Option, if◌then◌else◌}
 use Rattle.std.specs.Option.{option_map_or}
-use Rattle.serde_json.specs.Data.{null, object}
+use Rattle.serde_json.specs.Data.{null, object, string, Members, no_members, member}
 use Rattle.serde_json.specs.Written.{compact_text, comma_if}
 use Rattle.payload_records.specs.Props.{props_json}
 use Rattle.payload_records.specs.Record.{datum_json, members_json}
+use Rattle.payload_records.specs.declared.kind.Field.{Field}
+use Rattle.payload_records.specs.declared.kind.Kind.{Kind}
+use Rattle.payload_records.specs.declared.kind.Kind.TheVariants as kinds
 use Rattle.payload_records.specs.declared.props.Prop.{Prop}
 use Rattle.payload_records.specs.declared.record.Datum.{Datum}
 use Rattle.queue_rows.specs.declared.reply.Shown.{Shown}
 use Rattle.transcript.specs.Text.{json_text}
 
--- a record as a JSON object: every field of its type, a null one too
+-- cells as a JSON object: every field, a null one too
+abbrev pub cells_text : List Field → List Datum → List ℕ
+cells_text fields cells = compact_text (object (members_json fields cells))
+
+-- a record as a JSON object, by its type
 abbrev pub record_text : Shown → List ℕ
-record_text shown = compact_text (object (members_json shown.kind shown.cells.cells))
+record_text shown = cells_text shown.kind shown.cells.cells
+
+abbrev pub kind_word : Kind → List ℕ
+kind_word kinds.Num = codes "num"
+kind_word kinds.Text = codes "text"
+
+-- the name of each field with the word of its kind
+abbrev pub fields_json : List Field → Members
+fields_json [] = no_members
+fields_json (f ∷ fields) = member f.name (string (kind_word f.kind)) (fields_json fields)
+
+-- a record type as a JSON object
+abbrev pub fields_text : List Field → List ℕ
+fields_text fields = compact_text (object (fields_json fields))
 
 -- properties as a JSON object
 abbrev pub props_object : List Prop → List ℕ

@@ -1,5 +1,5 @@
 -- The parts of a line: ids, slots, sessions and texts as JSON.
-use Rattle.std.specs.Prelude.{◌≡◌, ℕ, ◌++◌, ◌&&◌, ◌==◌, not, nat_le, List, [], codes, decimal, Bool, Option, slice_get, String, string_bytes}
+use Rattle.std.specs.Prelude.{◌≡◌, ℕ, ◌++◌, ◌&&◌, ◌==◌, not, nat_le, List, [], codes, decimal, Bool, Option, slice_get, unwrap_or, String, string_bytes}
 use Rattle.std.specs.Option.{option_map_or}
 use Rattle.std.specs.declared.alloc.Global.{Global}
 use Rattle.serde_json.specs.Data.{null, string}
@@ -44,6 +44,14 @@ json_text text = compact_text (string text)
 -- a text as a JSON text, or null
 abbrev pub json_or_null : Option (List ℕ) → List ℕ
 json_or_null text = compact_text (option_map_or string text null)
+
+-- a name, or null
+abbrev pub name_or_null : Option (List ℕ) → List ℕ
+name_or_null name = unwrap_or name (codes "null")
+
+-- a number, or null
+abbrev pub number_or_null : Option ℕ → List ℕ
+number_or_null number = option_map_or decimal number (codes "null")
 
 -- the name of the session of that number, from 0; no text where there is no such session
 abbrev pub session_text : List SessionScript → ℕ → List ℕ

@@ -1,9 +1,9 @@
 // The lines of what the timer and the propagator did.
-ghost use Rattle.std.specs.Prelude.{◌≡◌, [], OnOk, codes, if◌then◌else◌};
+ghost use Rattle.std.specs.Prelude.{◌≡◌, OnOk};
 ghost use Rattle.transcript.specs.Line.{timer_line, timer_lines, offer_line, cause_word, arrival_text, arrive_line, confirm_line};
 ghost use Rattle.transcript.specs.Text.{Writes};
 
-use crate::text::{Id, Slot, other_of};
+use crate::text::{Id, Slot, other_of, word_of};
 use aq_base::DbId;
 use payload_records::{List, Name};
 use queue_rows::{Arrival, Cause, Change, MsgId, SlotRef};
@@ -77,12 +77,6 @@ fn cause_word(cause: Cause) -> &'static str
     }
 }
 
-fn disabled_text(disabled: bool) -> &'static str
-    ensures { result.now ≡ (if disabled then codes " disabled" else []) }
-{
-    if disabled { " disabled" } else { "" }
-}
-
 fn put_arrival(out: &mut String, from: DbId, outcome: Arrival) -> Result<(), AllocError>
     ensures { OnOk result (Writes out.old out.new (arrival_text from outcome)) }
 {
@@ -97,7 +91,7 @@ fn put_arrival(out: &mut String, from: DbId, outcome: Arrival) -> Result<(), All
         Arrival::Seen => out.push_str("seen"),
         Arrival::Failed { cause, disabled } => {
             let cause = cause_word(cause);
-            let disabled = disabled_text(disabled);
+            let disabled = word_of(disabled, " disabled", "");
             write!(out, "failed {cause}{disabled}")
         }
     }

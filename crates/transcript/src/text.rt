@@ -1,11 +1,11 @@
 // The parts of a line: ids, slots, sessions and texts as JSON.
-ghost use Rattle.std.specs.Prelude.{◌≡◌, OnOk, IfOk, option_map, Some};
+ghost use Rattle.std.specs.Prelude.{◌≡◌, OnOk, IfOk, option_map, Some, if◌then◌else◌};
 ghost use Rattle.std.specs.List.{list_all};
 ghost use Rattle.serde_json.specs.View.{view};
-ghost use Rattle.transcript.specs.Text.{Writes, letter_of, other_of, id_text, slot_text, is_plain, quoted_text, json_text, json_or_null, session_text};
+ghost use Rattle.transcript.specs.Text.{Writes, letter_of, other_of, id_text, slot_text, is_plain, quoted_text, json_text, json_or_null, name_or_null, number_or_null, session_text};
 
 use aq_base::DbId;
-use payload_records::{List, Text};
+use payload_records::{List, Name, Text};
 use queue_rows::{MsgId, SessionScript, SlotRef};
 use serde_json::Value;
 use std::alloc::{AllocError, Global};
@@ -115,6 +115,33 @@ pub(crate) fn put_json_or_null(out: &mut String, text: &Option<Text>) -> Result<
 {
     match text {
         Some(text) => put_json(out, text.as_str()),
+        None => out.push_str("null"),
+    }
+}
+
+/// The one word or the other.
+pub(crate) fn word_of(test: bool, yes: &'static str, no: &'static str) -> &'static str
+    ensures { result.now ≡ (if test then yes.now else no.now) }
+{
+    if test { yes } else { no }
+}
+
+/// A name as it stands, or null.
+pub(crate) fn name_or_null(name: &Option<Name>) -> &str
+    ensures { result.now ≡ name_or_null name.now }
+{
+    match name {
+        Some(name) => name.as_str(),
+        None => "null",
+    }
+}
+
+/// Puts a number in, or null.
+pub(crate) fn put_number_or_null(out: &mut String, number: Option<u64>) -> Result<(), AllocError>
+    ensures { OnOk result (Writes out.old out.new (number_or_null number)) }
+{
+    match number {
+        Some(number) => write!(out, "{number}"),
         None => out.push_str("null"),
     }
 }

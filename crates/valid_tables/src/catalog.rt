@@ -2,10 +2,9 @@
 ghost use Rattle.std.specs.Prelude.{◌≡◌, ◌+◌, List as Sequence, ℕ, IfOk, OnOk, find, filter, length, option_copied, if◌then◌else◌};
 ghost use Rattle.std.specs.Map.{count_at};
 ghost use Rattle.std.specs.Str.{bytes_eq};
-ghost use Rattle.queue_rows.specs.Rows.{find_table, find_queue, table_of};
-ghost use Rattle.queue_rows.specs.Recipients.{subscribers_of};
 ghost use Rattle.valid_tables.specs.Catalog.{at_name};
 
+use crate::named::NamedRows;
 use payload_records::{Copied, List, Name};
 use queue_rows::{QueueRow, SubRow, TableRow, Tables};
 use std::alloc::{AllocError, Global};
@@ -111,42 +110,26 @@ impl<'a> Catalog<'a> {
             sub_counts: counts_of_subs(alloc, &tables.subs)?,
         })
     }
+}
 
-    /// The tables themselves.
-    pub(crate) fn tables(&self) -> &Tables
-        ensures { result.now ≡ self.now }
-    {
+impl<'a> NamedRows for Catalog<'a> {
+    ghost use Rattle.queue_rows.specs.declared.tables.Tables.{Tables};
+
+    ghost tables = { λ c. c };
+
+    fn tables(&self) -> &Tables {
         self.tables
     }
 
-    /// The queue table of that name.
-    pub(crate) fn table(&self, name: &Name) -> Option<&TableRow>
-        ensures { option_copied result ≡ find_table self.now name.now }
-    {
+    fn table(&self, name: &Name) -> Option<&TableRow> {
         self.table_rows.get(name).copied()
     }
 
-    /// The queue of that name.
-    pub(crate) fn queue(&self, name: &Name) -> Option<&QueueRow>
-        ensures { option_copied result ≡ find_queue self.now name.now }
-    {
+    fn queue(&self, name: &Name) -> Option<&QueueRow> {
         self.queue_rows.get(name).copied()
     }
 
-    /// The queue table of the queue of that name.
-    pub(crate) fn table_of(&self, queue: &Name) -> Option<&TableRow>
-        ensures { option_copied result ≡ table_of self.now queue.now }
-    {
-        match self.queue(queue) {
-            Some(queue) => self.table(&queue.table),
-            None => None,
-        }
-    }
-
-    /// How many subscribers the queue of that name has.
-    pub(crate) fn sub_count(&self, queue: &Name) -> usize
-        ensures { result ≡ length (subscribers_of self.now queue.now) }
-    {
+    fn sub_count(&self, queue: &Name) -> usize {
         count_of(&self.sub_counts, queue)
     }
 }

@@ -9,7 +9,8 @@ use exception_queues::{MessageTables, find_queue, find_table};
 use payload_records::Name;
 use queue_rows::{Change, ScheduleRow, SeenRow, SubRow, Tables};
 
-fn find_sub<'a>(tables: &'a Tables, queue: &Name, name: &Name) -> Option<&'a SubRow>
+/// The subscriber of that queue and name. It takes no memory.
+pub fn find_sub<'a>(tables: &'a Tables, queue: &Name, name: &Name) -> Option<&'a SubRow>
     ensures { option_copied result ≡ find_sub tables.now queue.now name.now }
 {
     tables
@@ -18,7 +19,8 @@ fn find_sub<'a>(tables: &'a Tables, queue: &Name, name: &Name) -> Option<&'a Sub
         .find(|sub| sub.queue == *queue && sub.name == *name)
 }
 
-fn find_schedule<'a>(tables: &'a Tables, queue: &Name, to: &Name) -> Option<&'a ScheduleRow>
+/// The schedule of that queue and destination. It takes no memory.
+pub fn find_schedule<'a>(tables: &'a Tables, queue: &Name, to: &Name) -> Option<&'a ScheduleRow>
     ensures { option_copied result ≡ find_schedule tables.now queue.now to.now }
 {
     tables

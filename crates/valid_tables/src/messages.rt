@@ -9,10 +9,11 @@ ghost use Rattle.place_keys.specs.Place.{last_number};
 ghost use Rattle.queue_rows.specs.Valid.{is_right_queue, is_of_kind, are_of_kinds, has_right_cells, has_right_ids, has_right_place, has_right_lane, has_right_props, is_valid_message_in, is_valid_message};
 
 use crate::catalog::Catalog;
+use crate::named::NamedRows;
 use crate::slots::has_right_slots;
 use payload_records::{Datum, Field, Kind, List, PROP_LIMIT, Prop};
 use place_keys::{BEFORE_LIMIT, Place};
-use queue_rows::{MsgRow, QueueRow, TableRow, lane_of};
+use queue_rows::{MsgRow, QueueRow, TableRow, Tables, lane_of};
 
 // A normal queue where it is not moved, an exception queue where it is.
 fn is_right_queue(message: &MsgRow, queue: &QueueRow) -> bool
@@ -61,10 +62,9 @@ fn has_right_cells(table: &TableRow, message: &MsgRow) -> bool
 // ---- its numbers and its place
 
 // The id is at least 1 and below the next one, and the group likewise.
-fn has_right_ids(catalog: &Catalog<'_>, message: &MsgRow) -> bool
-    ensures { result ≡ has_right_ids catalog.now message.now }
+fn has_right_ids(tables: &Tables, message: &MsgRow) -> bool
+    ensures { result ≡ has_right_ids tables.now message.now }
 {
-    let tables = catalog.tables();
     1 <= message.id
         && message.id < tables.next
         && 1 <= message.group
@@ -146,32 +146,34 @@ fn has_right_props(message: &MsgRow) -> bool
 // ---- all of it
 
 fn is_valid_message_in(
-    catalog: &Catalog<'_>,
+    tables: &Tables,
     queue: &QueueRow,
     table: Option<&TableRow>,
     message: &MsgRow,
 ) -> bool
-    ensures { result ≡ is_valid_message_in catalog.now queue.now (option_copied table.entry) message.now }
+    ensures { result ≡ is_valid_message_in tables.now queue.now (option_copied table.entry) message.now }
 {
     let Some(table) = table else {
         return false;
     };
     is_right_queue(message, queue)
         && has_right_cells(table, message)
-        && has_right_ids(catalog, message)
+        && has_right_ids(tables, message)
         && has_right_place(table, message)
         && has_right_lane(table, queue, message)
         && has_right_props(message)
-        && message.enq <= catalog.tables().latest
-        && has_right_slots(catalog.tables(), table, queue, message)
+        && message.enq <= tables.latest
+        && has_right_slots(tables, table, queue, message)
 }
 
-// It stands in a queue that is there, and is right for it and its table.
-fn is_valid_message(catalog: &Catalog<'_>, message: &MsgRow) -> bool
-    ensures { result ≡ is_valid_message catalog.now message.now }
+/// Whether the message stands in a queue that is there, and is right for it and its table. It takes no memory.
+pub fn is_valid_message<R: NamedRows>(rows: &R, message: &MsgRow) -> bool
+    ensures { result ≡ is_valid_message (R.tables rows.now) message.now }
 {
-    match catalog.queue(&message.queue) {
-        Some(queue) => is_valid_message_in(catalog, queue, catalog.table(&queue.table), message),
+    match rows.queue(&message.queue) {
+        Some(queue) => {
+            is_valid_message_in(rows.tables(), queue, rows.table(&queue.table), message)
+        }
         None => false,
     }
 }

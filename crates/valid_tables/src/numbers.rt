@@ -8,7 +8,7 @@ use queue_rows::Tables;
 
 /// Whether the next id and group are at least 1, the next id at most 2^61, the next group at most the next id, and the
 /// latest moment at most 2^62.
-pub(crate) fn has_right_numbers(tables: &Tables) -> bool
+pub fn has_right_numbers(tables: &Tables) -> bool
     ensures { result ≡ has_right_numbers tables.now }
 {
     1 <= tables.next

@@ -7,6 +7,7 @@ ghost use Rattle.queue_rows.specs.Within.{if_some, is_span};
 ghost use Rattle.queue_rows.specs.Valid.{takes_subscribers, is_right_rule, is_valid_sub, has_right_failures, is_valid_schedule};
 
 use crate::catalog::Catalog;
+use crate::named::{NamedRows, table_of};
 use crate::numbers::{is_span, is_time};
 use aq_base::{MOMENT_LIMIT, SUBSCRIBER_LIMIT};
 use payload_records::Name;
@@ -24,11 +25,11 @@ fn has_subscribers(queue: &QueueRow, table: Option<&TableRow>) -> bool
 }
 
 // It is a normal queue of a table with many consumers.
-fn takes_subscribers(catalog: &Catalog<'_>, queue: &Name) -> bool
-    ensures { result ≡ takes_subscribers catalog.now queue.now }
+fn takes_subscribers<R: NamedRows>(rows: &R, queue: &Name) -> bool
+    ensures { result ≡ takes_subscribers (R.tables rows.now) queue.now }
 {
-    match catalog.queue(queue) {
-        Some(queue) => has_subscribers(queue, catalog.table(&queue.table)),
+    match rows.queue(queue) {
+        Some(queue) => has_subscribers(queue, rows.table(&queue.table)),
         None => false,
     }
 }
@@ -49,24 +50,25 @@ fn is_right_rule(table: Option<&TableRow>, rule: &Cond) -> Result<bool, AllocErr
     }
 }
 
-fn has_right_rule(catalog: &Catalog<'_>, sub: &SubRow) -> Result<bool, AllocError>
+fn has_right_rule<R: NamedRows>(rows: &R, sub: &SubRow) -> Result<bool, AllocError>
     ensures { IfOk result (λ right.
-        right ≡ if_some (is_right_rule (table_of catalog.now sub.now.queue)) sub.now.rule) }
+        right ≡ if_some (is_right_rule (table_of (R.tables rows.now) sub.now.queue)) sub.now.rule) }
 {
     match &sub.rule {
-        Some(rule) => is_right_rule(catalog.table_of(&sub.queue), rule),
+        Some(rule) => is_right_rule(table_of(rows, &sub.queue), rule),
         None => Ok(true),
     }
 }
 
-// It belongs to a queue that has no more than it may have, and its rule is right.
-fn is_valid_sub(catalog: &Catalog<'_>, sub: &SubRow) -> Result<bool, AllocError>
-    ensures { IfOk result (λ valid. valid ≡ is_valid_sub catalog.now sub.now) }
+/// Whether the subscriber belongs to a queue that has no more than it may have, and its rule is right. The error is want of
+/// memory.
+pub fn is_valid_sub<R: NamedRows>(rows: &R, sub: &SubRow) -> Result<bool, AllocError>
+    ensures { IfOk result (λ valid. valid ≡ is_valid_sub (R.tables rows.now) sub.now) }
 {
     Ok(
-        takes_subscribers(catalog, &sub.queue)
-            && catalog.sub_count(&sub.queue) <= SUBSCRIBER_LIMIT
-            && has_right_rule(catalog, sub)?,
+        takes_subscribers(rows, &sub.queue)
+            && rows.sub_count(&sub.queue) <= SUBSCRIBER_LIMIT
+            && has_right_rule(rows, sub)?,
     )
 }
 
@@ -100,11 +102,11 @@ fn is_span_if_some(seconds: Option<u64>) -> bool
     }
 }
 
-// It belongs to a queue that may have one, and its numbers are within the limits.
-fn is_valid_schedule(catalog: &Catalog<'_>, schedule: &ScheduleRow) -> bool
-    ensures { result ≡ is_valid_schedule catalog.now schedule.now }
+/// Whether the schedule belongs to a queue that may have one, and its numbers are within the limits. It takes no memory.
+pub fn is_valid_schedule<R: NamedRows>(rows: &R, schedule: &ScheduleRow) -> bool
+    ensures { result ≡ is_valid_schedule (R.tables rows.now) schedule.now }
 {
-    takes_subscribers(catalog, &schedule.queue)
+    takes_subscribers(rows, &schedule.queue)
         && has_right_failures(schedule)
         && schedule.start <= MOMENT_LIMIT
         && is_span_if_some(schedule.duration)

@@ -6,6 +6,7 @@ ghost use Rattle.queue_rows.specs.Rows.{find_queue, exception_name};
 ghost use Rattle.queue_rows.specs.Valid.{is_default_exception, is_valid_table};
 
 use crate::catalog::Catalog;
+use crate::named::NamedRows;
 use payload_records::{FIELD_LIMIT, Name};
 use queue_rows::{QueueRow, TableRow};
 use std::alloc::AllocError;

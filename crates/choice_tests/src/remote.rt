@@ -1,0 +1,106 @@
+// Stores at random, in which the rows of a destination and a walk lead to the same message that a schedule sends.
+ghost use Rattle.std.specs.Prelude.{◌≡◌, IfOk, IsTrue, All};
+ghost use Rattle.remote_slots.specs.Few.{HasFewSlots};
+ghost use Rattle.remote_slots.specs.Remote.{IndexesRemote};
+ghost use Rattle.choice_tests.specs.Kept.{numbered_from};
+
+use crate::kept::Numbered;
+use crate::rows::{below, fill};
+use payload_records::Name;
+use queue_rows::{MsgRow, ScheduleRow};
+use remote_slots::{RemoteSlots, least_by_rows, least_by_walk};
+use row_tree::Tree;
+use std::alloc::{AllocError, Global};
+use std::test::Fail;
+
+fn index_of(kept: &Numbered, alloc: Global) -> Result<RemoteSlots, AllocError>
+    ensures { IfOk result (λ remote. IndexesRemote (numbered_from 0 kept.now.messages) remote) }
+{
+    let _most = kept.messages.len();
+    let mut remote = RemoteSlots::new(alloc);
+    let mut stamp = 0;
+    for message in &kept.messages {
+        remote.put(stamp, message)?;
+        stamp += 1;
+    }
+    Ok(remote)
+}
+
+fn has_few(message: &MsgRow) -> bool
+    ensures { IsTrue result → HasFewSlots message.now }
+{
+    message.recipient_count() < 100
+}
+
+fn have_few(messages: &Tree<MsgRow>) -> bool
+    ensures { IsTrue result → All HasFewSlots messages.now }
+{
+    messages.iter().all(|message| has_few(message))
+}
+
+fn are_same(left: Option<&MsgRow>, right: Option<&MsgRow>) -> bool {
+    match (left, right) {
+        (Some(left), Some(right)) => left.id == right.id,
+        (None, None) => true,
+        _ => false,
+    }
+}
+
+fn sends_alike(kept: &Numbered, remote: &RemoteSlots, schedule: &ScheduleRow, moment: u64) -> bool
+    requires indexed { IndexesRemote (numbered_from 0 kept.now.messages) remote.now }
+    requires few { All HasFewSlots kept.now.messages }
+{
+    let by_rows = least_by_rows(kept, remote.index(), schedule, moment);
+    let by_walk = least_by_walk(&kept.messages, schedule, moment);
+    are_same(by_rows, by_walk)
+}
+
+fn schedule_of(queue: Name, to: Name, latency: u64) -> ScheduleRow {
+    ScheduleRow {
+        queue,
+        to,
+        enabled: true,
+        start: 3,
+        duration: None,
+        period: None,
+        latency,
+        failures: 0,
+        next: 0,
+    }
+}
+
+fn any_schedule(seed: &mut u32, alloc: Global) -> Result<ScheduleRow, Fail> {
+    let queue = Name::read(alloc, "q")?;
+    let to = Name::read(alloc, "far")?;
+    Ok(schedule_of(queue, to, u64::from(below(seed, 3)) * 5))
+}
+
+fn answers_alike(
+    kept: &Numbered,
+    remote: &RemoteSlots,
+    seed: &mut u32,
+    alloc: Global,
+) -> Result<bool, Fail>
+    requires { IndexesRemote (numbered_from 0 kept.now.messages) remote.now }
+{
+    let schedule = any_schedule(seed, alloc)?;
+    let moment = 3 + u64::from(below(seed, 20));
+    Ok(have_few(&kept.messages) && sends_alike(kept, remote, &schedule, moment))
+}
+
+fn store_alike(seed: &mut u32, alloc: Global) -> Result<bool, Fail> {
+    let mut messages = Tree::new();
+    fill(&mut messages, seed, alloc)?;
+    let kept = Numbered { messages };
+    let remote = index_of(&kept, alloc)?;
+    answers_alike(&kept, &remote, seed, alloc)
+}
+
+#[test]
+fn rows_and_a_walk_send_the_same(rt: HostRuntime) -> Result<(), Fail> {
+    let mut seed = 1;
+    for _ in 0..300 {
+        assert!(rt; store_alike(&mut seed, rt.alloc())?, "{seed}");
+    }
+    Ok(())
+}

@@ -1,0 +1,7 @@
+//! Whether a commit fits the tables on which it is made, told by what it names.
+#![tactic(auto)]
+
+mod named;
+mod stays;
+
+pub use stays::stays_valid;

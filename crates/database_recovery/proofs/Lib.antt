@@ -1,0 +1,6 @@
+pub mod Disks
+pub mod Each
+pub mod Folding
+pub mod Judging
+pub mod Keeping
+pub mod Leading

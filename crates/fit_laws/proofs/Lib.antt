@@ -1,0 +1,5 @@
+pub mod Going
+pub mod Growing
+pub mod Lists
+pub mod Stepping
+pub mod Telling

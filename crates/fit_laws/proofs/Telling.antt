@@ -1,0 +1,243 @@
+-- What a commit names tells whether the tables after it are valid.
+use Rattle.std.proofs.Common.{◌≡◌, ◌≤◌, ℕ, List, [], ◌∷◌, Bool, true, false, max, length, refl, sym, ap, ◌∙◌, arith, Option, Some, None, ◌==◌, ◌&&◌}
+use Rattle.std.specs.Prelude.{find, filter, flat_map, nat_le, nat_lt}
+use Rattle.std.specs.List.{list_any, list_all}
+use Rattle.std.specs.Option.{option_map_or}
+use Rattle.std.specs.Str.{bytes_eq}
+use Rattle.std.proofs.lemmas.Bool.{and_parts, and_from, eqb-true, eq-eqb, le-leb, leb-true, false≢true}
+use Rattle.aq_base.specs.declared.limits.TheConstants.{SUBSCRIBER_LIMIT}
+use Rattle.queue_rows.specs.Rows.{find_message, find_queue, find_sub, find_schedule, is_sub, is_schedule, is_same_table, is_same_queue, is_same_sub, is_same_schedule}
+use Rattle.queue_rows.specs.Tables.{after_all, after}
+use Rattle.queue_rows.specs.Recipients.{subscribers_of}
+use Rattle.queue_rows.specs.Distinct.{are_distinct}
+use Rattle.queue_rows.specs.Valid.{is_valid, has_right_numbers, is_same_message, is_same_seen, is_valid_table, is_valid_queue, is_valid_sub, takes_subscribers, is_right_rule, is_valid_schedule, is_valid_message}
+use Rattle.queue_rows.specs.Fits.{all_name_what_is_there}
+use Rattle.queue_rows.specs.declared.tables.Tables.{Tables}
+use Rattle.queue_rows.specs.declared.rows.MsgRow.{MsgRow}
+use Rattle.queue_rows.specs.declared.rows.QueueRow.{QueueRow}
+use Rattle.queue_rows.specs.declared.rows.SubRow.{SubRow}
+use Rattle.queue_rows.specs.declared.rows.ScheduleRow.{ScheduleRow}
+use Rattle.queue_rows.specs.declared.change.Change.{Change}
+use Rattle.queue_rows.specs.declared.change.Change.TheVariants as changes
+use Rattle.row_laws.proofs.Latest.{at_latest}
+use Rattle.row_laws.proofs.Finding.{find-yes, find-no, found_is}
+use Rattle.valid_laws.specs.ValidLaws.{keeps_queues}
+use Rattle.valid_laws.proofs.Cataloguing.{same_name, own_name}
+use Rattle.valid_laws.proofs.Parts.{ValidParts, parts_of, valid_from, six_parts, six_from, all_found, all_weaker}
+use Rattle.fit_laws.specs.FitLaws.{FitIsLocal, holds_right_message, holds_right_queue, holds_right_sub, holds_right_schedule, leaves_right, leaves_all_right}
+use Rattle.fit_laws.proofs.Growing.{HasGrown, table_stays, queue_stays, sub_stays, schedule_stays, message_stays, lt_stays}
+use Rattle.fit_laws.proofs.Lists.{same_test, some_both, append_parts}
+use Rattle.fit_laws.proofs.Stepping.{marks_message, marks_queue, marks_sub, marks_schedule, subscribes, saw, messages_one, queues_one, subs_one, schedules_one, own_sub, own_schedule, join_names, join_subs, join_schedules, StandApart}
+use Rattle.fit_laws.proofs.Going.{grown_all, apart_all, fewer_all, seen_all, all_right}
+
+-- ---- a row that is named and stands is valid
+
+module _ (u : Tables) where
+  held_message : (id : ℕ) (m : MsgRow) → (m.id == id) ≡ true → holds_right_message u id ≡ true → find_message u m.id ≡ Some m → is_valid_message u m ≡ true
+  held_message id m e h f = sym (ap (λ o. option_map_or (is_valid_message u) o true) f) ∙ ap (holds_right_message u) (eqb-true m.id id e) ∙ h
+
+  held_queue : (name : List ℕ) (q : QueueRow) → bytes_eq q.name name ≡ true → holds_right_queue u name ≡ true → find_queue u q.name ≡ Some q → is_valid_queue u q ≡ true
+  held_queue name q e h f = sym (ap (λ o. option_map_or (is_valid_queue u) o true) f) ∙ ap (holds_right_queue u) (same_name q.name name e) ∙ h
+
+  held_schedule : (row s : ScheduleRow) → is_same_schedule s row ≡ true → holds_right_schedule u row.queue row.to ≡ true → find_schedule u s.queue s.to ≡ Some s → is_valid_schedule u s ≡ true
+  held_schedule row s e h f =
+      let p = and_parts (bytes_eq s.queue row.queue) (bytes_eq s.to row.to) e in
+      sym (ap (λ o. option_map_or (is_valid_schedule u) o true) f) ∙ ap (λ n. holds_right_schedule u n s.to) (same_name s.queue row.queue p.0) ∙ ap (holds_right_schedule u row.queue) (same_name s.to row.to p.1) ∙ h
+
+  held_sub : (row s : SubRow) → is_same_sub s row ≡ true → option_map_or (is_valid_sub u) (find_sub u row.queue row.name) true ≡ true → find_sub u s.queue s.name ≡ Some s → is_valid_sub u s ≡ true
+  held_sub row s e h f =
+      let p = and_parts (bytes_eq s.queue row.queue) (bytes_eq s.name row.name) e in
+      sym (ap (λ o. option_map_or (is_valid_sub u) o true) f) ∙ ap (λ n. option_map_or (is_valid_sub u) (find_sub u n s.name) true) (same_name s.queue row.queue p.0)
+      ∙ ap (λ n. option_map_or (is_valid_sub u) (find_sub u row.queue n) true) (same_name s.name row.name p.1) ∙ h
+
+  message_of : (c : Change) (m : MsgRow) → leaves_right u c ≡ true → marks_message c m ≡ true → find_message u m.id ≡ Some m → is_valid_message u m ≡ true
+  message_of (changes.Enqueued row) m h e f = held_message row.id m e (and_parts (holds_right_message u row.id) (holds_right_queue u row.queue) h).0 f
+  message_of (changes.Retried id slot retries until at) m h e f = held_message id m e h f
+  message_of (changes.Ready id slot at) m h e f = held_message id m e h f
+  message_of (changes.Done id slot at) m h e f = held_message id m e h f
+  message_of (changes.Expired id slot at) m h e f = held_message id m e h f
+  message_of (changes.Dropped id slot at) m h e f = held_message id m e h f
+  message_of (changes.Moved id queue at) m h e f = held_message id m e (and_parts (holds_right_message u id) (holds_right_queue u queue) h).0 f
+  message_of _ m h e f = absurd (false≢true e)
+
+  queue_of : (c : Change) (q : QueueRow) → leaves_right u c ≡ true → marks_queue c q ≡ true → find_queue u q.name ≡ Some q → is_valid_queue u q ≡ true
+  queue_of (changes.Enqueued row) q h e f = held_queue row.queue q e (and_parts (holds_right_message u row.id) (holds_right_queue u row.queue) h).1 f
+  queue_of (changes.Moved id queue at) q h e f = held_queue queue q e (and_parts (holds_right_message u id) (holds_right_queue u queue) h).1 f
+  queue_of _ q h e f = absurd (false≢true e)
+
+  sub_of : (c : Change) (s : SubRow) → leaves_right u c ≡ true → marks_sub c s ≡ true → find_sub u s.queue s.name ≡ Some s → is_valid_sub u s ≡ true
+  sub_of (changes.PutSub row) s h e f = held_sub row s e (and_parts (nat_le (length (subscribers_of u row.queue)) SUBSCRIBER_LIMIT) (option_map_or (is_valid_sub u) (find_sub u row.queue row.name) true) h).1 f
+  sub_of _ s h e f = absurd (false≢true e)
+
+  schedule_of : (c : Change) (s : ScheduleRow) → leaves_right u c ≡ true → marks_schedule c s ≡ true → find_schedule u s.queue s.to ≡ Some s → is_valid_schedule u s ≡ true
+  schedule_of (changes.PutSchedule row) s h e f = held_schedule row s e h f
+  schedule_of _ s h e f = absurd (false≢true e)
+
+  count_of : (c : Change) (queue : List ℕ) → leaves_right u c ≡ true → subscribes queue c ≡ true → nat_le (length (subscribers_of u queue)) SUBSCRIBER_LIMIT ≡ true
+  count_of (changes.PutSub row) queue h e =
+      ap (λ n. nat_le (length (subscribers_of u n)) SUBSCRIBER_LIMIT) (sym (same_name row.queue queue e))
+      ∙ (and_parts (nat_le (length (subscribers_of u row.queue)) SUBSCRIBER_LIMIT) (option_map_or (is_valid_sub u) (find_sub u row.queue row.name) true) h).0
+  count_of _ queue h e = absurd (false≢true e)
+
+  seen_of : (c : Change) → leaves_right u c ≡ true → list_all (λ s. nat_lt s.copy u.next) (saw c) ≡ true
+  seen_of (changes.Seen row) h = and_from (nat_lt row.copy u.next) true h refl
+  seen_of (changes.PutTable row) h = refl
+  seen_of _ h = refl
+
+  seen_of_all : (cs : List Change) → list_all (leaves_right u) cs ≡ true → list_all (λ s. nat_lt s.copy u.next) (flat_map saw cs) ≡ true
+  seen_of_all [] h = refl
+  seen_of_all (c ∷ cs) h =
+      let p = and_parts (leaves_right u c) (list_all (leaves_right u) cs) h in
+      Rattle.valid_laws.proofs.Doing.all-append (λ s. nat_lt s.copy u.next) (saw c) (flat_map saw cs) (seen_of c p.0) (seen_of_all cs p.1)
+
+-- ---- from what is named to all rows
+
+self_message : (m : MsgRow) → is_same_message m m ≡ true
+self_message m = eq-eqb m.id m.id refl
+
+join_messages : (x y m : MsgRow) → is_same_message x m ≡ true → is_same_message y m ≡ true → is_same_message x y ≡ true
+join_messages x y m e g = eq-eqb x.id y.id (eqb-true x.id m.id e ∙ sym (eqb-true y.id m.id g))
+
+self_queue : (q : QueueRow) → is_same_queue q q ≡ true
+self_queue q = own_name q.name
+
+join_queues : (x y m : QueueRow) → is_same_queue x m ≡ true → is_same_queue y m ≡ true → is_same_queue x y ≡ true
+join_queues x y m e g = join_names x.name y.name m.name e g
+
+module _ (t : Tables) (v : is_valid t ≡ true) (cs : List Change) (k : list_all keeps_queues cs ≡ true) (n : all_name_what_is_there t cs ≡ true) (latest : ℕ) (le : (after_all t cs).latest ≤ latest) where
+  abbrev then : Tables
+  then = at_latest latest (after_all t cs)
+
+  parts : ValidParts t
+  parts = parts_of t v
+
+  rows_apart : (are_distinct is_same_table t.tables ≡ true) × (are_distinct is_same_queue t.queues ≡ true) × (are_distinct is_same_sub t.subs ≡ true) × (are_distinct is_same_schedule t.schedules ≡ true) × (are_distinct is_same_message t.messages ≡ true)
+      × (are_distinct is_same_seen t.seen ≡ true)
+  rows_apart = six_parts (are_distinct is_same_table t.tables) (are_distinct is_same_queue t.queues) (are_distinct is_same_sub t.subs) (are_distinct is_same_schedule t.schedules) (are_distinct is_same_message t.messages) (are_distinct is_same_seen t.seen) parts.rows
+
+  apart : StandApart (after_all t cs)
+  apart =
+      let r = rows_apart in
+      apart_all cs t k n (record { queues = r.1; subs = r.2; schedules = r.3; messages = r.4; seen = r.5 })
+
+  grown : HasGrown t then
+  grown =
+      let g = grown_all cs t k in
+      record {
+        tables = g.tables;
+        queues = λ name q f. (let l = g.queues name q f in record { row = l.row; row_is = l.row_is; table = l.table; kind = l.kind; retries = l.retries; lowest = l.lowest });
+        next = g.next;
+        transaction = g.transaction;
+        latest = (let a = g.latest in omega (arith, a, le));
+      }
+
+  -- ---- what is named is right
+
+  module _ (h : list_all (leaves_right then) cs ≡ true) where
+    few_by : (queue : List ℕ) (b : Bool) → list_any (subscribes queue) cs ≡ b → nat_le (length (subscribers_of t queue)) SUBSCRIBER_LIMIT ≡ true → nat_le (length (subscribers_of then queue)) SUBSCRIBER_LIMIT ≡ true
+    few_by queue true e few = let some = some_both (leaves_right then) (subscribes queue) cs h e in count_of then some.0 queue some.1 some.2
+    few_by queue false e few =
+        let less = fewer_all cs t queue k e in
+        let low = leb-true (length (subscribers_of t queue)) SUBSCRIBER_LIMIT few in
+        le-leb (length (subscribers_of then queue)) SUBSCRIBER_LIMIT (omega (arith, less, low))
+
+    sub_there : (s : SubRow) → is_valid_sub t s ≡ true → is_valid_sub then s ≡ true
+    sub_there s e = sub_stays t then grown s (few_by s.queue (list_any (subscribes s.queue) cs) refl) e
+
+    rows_right : has_right_numbers then ≡ true → ValidParts then
+    rows_right numbers =
+        let r = rows_apart in
+        let p = parts in
+        let a = apart in
+        record {
+          rows = six_from (are_distinct is_same_table (after_all t cs).tables) (are_distinct is_same_queue (after_all t cs).queues) (are_distinct is_same_sub (after_all t cs).subs) (are_distinct is_same_schedule (after_all t cs).schedules)
+              (are_distinct is_same_message (after_all t cs).messages) (are_distinct is_same_seen (after_all t cs).seen) (ap (are_distinct is_same_table) grown.tables ∙ r.0) a.queues a.subs a.schedules a.messages a.seen;
+          numbers = numbers;
+          tables = ap (list_all (is_valid_table then)) grown.tables ∙ all_weaker (is_valid_table t) (is_valid_table then) (table_stays t then grown) t.tables p.tables;
+          queues = all_right (λ x. x.queues) marks_queue queues_one is_same_queue self_queue join_queues (is_valid_queue then) cs t k a.queues
+              (all_weaker (is_valid_queue t) (is_valid_queue then) (queue_stays t then grown) t.queues p.queues)
+              (λ q e f. let some = some_both (leaves_right then) (λ c. marks_queue c q) cs h e in queue_of then some.0 q some.1 some.2 f);
+          subs = all_right (λ x. x.subs) marks_sub subs_one is_same_sub own_sub join_subs (is_valid_sub then) cs t k a.subs
+              (all_weaker (is_valid_sub t) (is_valid_sub then) sub_there t.subs p.subs)
+              (λ s e f. let some = some_both (leaves_right then) (λ c. marks_sub c s) cs h e in sub_of then some.0 s some.1 some.2 f);
+          schedules = all_right (λ x. x.schedules) marks_schedule schedules_one is_same_schedule own_schedule join_schedules (is_valid_schedule then) cs t k a.schedules
+              (all_weaker (is_valid_schedule t) (is_valid_schedule then) (schedule_stays t then grown) t.schedules p.schedules)
+              (λ s e f. let some = some_both (leaves_right then) (λ c. marks_schedule c s) cs h e in schedule_of then some.0 s some.1 some.2 f);
+          messages = all_right (λ x. x.messages) marks_message messages_one is_same_message self_message join_messages (is_valid_message then) cs t k a.messages
+              (all_weaker (is_valid_message t) (is_valid_message then) (message_stays t then grown) t.messages p.messages)
+              (λ m e f. let some = some_both (leaves_right then) (λ c. marks_message c m) cs h e in message_of then some.0 m some.1 some.2 f);
+          seen = ap (list_all (λ s. nat_lt s.copy then.next)) (seen_all cs t k)
+              ∙ Rattle.valid_laws.proofs.Doing.all-append (λ s. nat_lt s.copy then.next) t.seen (flat_map saw cs)
+              (all_weaker (λ s. nat_lt s.copy t.next) (λ s. nat_lt s.copy then.next) (λ s e. lt_stays t then grown s.copy t.next then.next grown.next e) t.seen p.seen) (seen_of_all then cs h);
+        }
+
+  -- ---- from valid tables to what is named
+
+  module _ (w : is_valid then ≡ true) where
+    found_right : {X : Type 0} (q : X → Bool) (p : X → Bool) (xs : List X) → list_all q xs ≡ true → (o : Option X) → find p xs ≡ o → option_map_or q o true ≡ true
+    found_right q p xs h None e = refl
+    found_right q p xs h (Some x) e = all_found q p xs x h e
+
+    message_right : (id : ℕ) → holds_right_message then id ≡ true
+    message_right id = found_right (is_valid_message then) (λ m. m.id == id) then.messages (parts_of then w).messages (find_message then id) refl
+
+    queue_right : (name : List ℕ) → holds_right_queue then name ≡ true
+    queue_right name = found_right (is_valid_queue then) (λ r. bytes_eq r.name name) then.queues (parts_of then w).queues (find_queue then name) refl
+
+    few_if : (queue : List ℕ) (o : Option SubRow) → find (λ s. bytes_eq s.queue queue) then.subs ≡ o → nat_le (length (subscribers_of then queue)) SUBSCRIBER_LIMIT ≡ true
+    few_if queue None e = ap (λ ys. nat_le (length ys) SUBSCRIBER_LIMIT) (none_kept (λ s. bytes_eq s.queue queue) then.subs e)
+      where
+        none_kept_step : {X : Type 0} (p : X → Bool) (x : X) (xs : List X) (b : Bool) → p x ≡ b → find p (x ∷ xs) ≡ None → (find p xs ≡ None → filter p xs ≡ []) → filter p (x ∷ xs) ≡ []
+        none_kept_step p x xs true g e ih = absurd (Rattle.std.proofs.lemmas.Option.none-some x (sym e ∙ find-yes p x xs g))
+        none_kept_step p x xs false g e ih = Rattle.row_laws.proofs.Finding.filter-no p p x xs g ∙ ih (sym (find-no p x xs g) ∙ e)
+
+        none_kept : {X : Type 0} (p : X → Bool) (xs : List X) → find p xs ≡ None → filter p xs ≡ []
+        none_kept p [] e = refl
+        none_kept p (x ∷ xs) e = none_kept_step p x xs (p x) refl e (none_kept p xs)
+    few_if queue (Some s) e =
+        let valid = all_found (is_valid_sub then) (λ x. bytes_eq x.queue queue) then.subs s (parts_of then w).subs e in
+        let p = and_parts (takes_subscribers then s.queue && nat_le (length (subscribers_of then s.queue)) SUBSCRIBER_LIMIT) (Rattle.queue_rows.specs.Within.if_some (is_right_rule (Rattle.queue_rows.specs.Rows.table_of then s.queue)) s.rule) valid in
+        let q = and_parts (takes_subscribers then s.queue) (nat_le (length (subscribers_of then s.queue)) SUBSCRIBER_LIMIT) p.0 in
+        ap (λ name. nat_le (length (subscribers_of then name)) SUBSCRIBER_LIMIT) (sym (same_name s.queue queue (found_is (λ x. bytes_eq x.queue queue) then.subs s e))) ∙ q.1
+
+    sub_right : (queue name : List ℕ) → holds_right_sub then queue name ≡ true
+    sub_right queue name =
+        and_from (nat_le (length (subscribers_of then queue)) SUBSCRIBER_LIMIT) (option_map_or (is_valid_sub then) (find_sub then queue name) true)
+        (few_if queue (find (λ s. bytes_eq s.queue queue) then.subs) refl)
+        (found_right (is_valid_sub then) (is_sub queue name) then.subs (parts_of then w).subs (find_sub then queue name) refl)
+
+    schedule_right : (queue to : List ℕ) → holds_right_schedule then queue to ≡ true
+    schedule_right queue to = found_right (is_valid_schedule then) (is_schedule queue to) then.schedules (parts_of then w).schedules (find_schedule then queue to) refl
+
+    change_right : (c : Change) → list_all (λ s. nat_lt s.copy then.next) (saw c) ≡ true → leaves_right then c ≡ true
+    change_right (changes.Enqueued row) h = and_from (holds_right_message then row.id) (holds_right_queue then row.queue) (message_right row.id) (queue_right row.queue)
+    change_right (changes.Retried id slot retries until at) h = message_right id
+    change_right (changes.Ready id slot at) h = message_right id
+    change_right (changes.Done id slot at) h = message_right id
+    change_right (changes.Expired id slot at) h = message_right id
+    change_right (changes.Dropped id slot at) h = message_right id
+    change_right (changes.Moved id queue at) h = and_from (holds_right_message then id) (holds_right_queue then queue) (message_right id) (queue_right queue)
+    change_right (changes.Seen row) h = (and_parts (nat_lt row.copy then.next) true h).0
+    change_right (changes.PutSub row) h = sub_right row.queue row.name
+    change_right (changes.PutSchedule row) h = schedule_right row.queue row.to
+    change_right _ h = refl
+
+    changes_right : (ds : List Change) → list_all (λ s. nat_lt s.copy then.next) (flat_map saw ds) ≡ true → list_all (leaves_right then) ds ≡ true
+    changes_right [] h = refl
+    changes_right (d ∷ ds) h =
+        let p = append_parts (λ s. nat_lt s.copy then.next) (saw d) (flat_map saw ds) h in
+        and_from (leaves_right then d) (list_all (leaves_right then) ds) (change_right d p.0) (changes_right ds p.1)
+
+    named_right : list_all (leaves_right then) cs ≡ true
+    named_right =
+        let all = sym (ap (list_all (λ s. nat_lt s.copy then.next)) (seen_all cs t k)) ∙ (parts_of then w).seen in
+        changes_right cs (append_parts (λ s. nat_lt s.copy then.next) t.seen (flat_map saw cs) all).1
+
+  pub told : leaves_all_right then cs ≡ is_valid then
+  told = same_test (leaves_all_right then cs) (is_valid then)
+      (λ h. let p = and_parts (has_right_numbers then) (list_all (leaves_right then) cs) h in valid_from then (rows_right p.1 p.0))
+      (λ w. and_from (has_right_numbers then) (list_all (leaves_right then) cs) (parts_of then w).numbers (named_right w))
+
+pub fit_is_local : FitIsLocal
+unfolding after
+fit_is_local t commit v n k = told t v commit.changes k n (max (after_all t commit.changes).latest commit.moment) (omega arith)

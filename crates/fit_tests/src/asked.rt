@@ -1,0 +1,123 @@
+// Changes, as the cases name them.
+use crate::rows;
+use payload_records::{List, Name};
+use queue_rows::{Change, QueueKind};
+use std::alloc::Global;
+use std::test::Fail;
+
+/// A change; what it does to a slot it does to slot 1, at the moment 4 where none is named.
+#[derive(Clone, Copy)]
+pub(crate) enum Asked {
+    /// The queue table `t`.
+    Table,
+    /// A queue of that name, and whether it is an exception queue.
+    Queue(&'static str, bool),
+    /// The queue goes.
+    NoQueue(&'static str),
+    /// A subscriber of the queue.
+    Sub(&'static str),
+    /// A schedule of the queue, and how often it failed.
+    Schedule(&'static str, u64),
+    /// A message, its queue, and its lane.
+    Message(u32, &'static str, i64),
+    /// So many retries of a message.
+    Retried(u64, u64),
+    /// A message is taken at that moment.
+    Done(u64, u64),
+    /// A message expires.
+    Expired(u64),
+    /// A message moves to the queue.
+    Moved(u64, &'static str),
+    /// A message goes.
+    Purged(u64),
+    /// A slot was seen that came as the message of that number.
+    Seen(u64),
+    /// The next number.
+    Next(u64),
+}
+
+fn put_queue(alloc: Global, name: &str, is_exception: bool) -> Result<Change, Fail> {
+    let kind = if is_exception {
+        QueueKind::Exception
+    } else {
+        QueueKind::Normal
+    };
+    Ok(Change::PutQueue(rows::queue(alloc, name, kind)?))
+}
+
+fn no_queue(alloc: Global, name: &str) -> Result<Change, Fail> {
+    Ok(Change::DropQueue(Name::read(alloc, name)?))
+}
+
+fn moved(alloc: Global, id: u64, queue: &str) -> Result<Change, Fail> {
+    let queue = Name::read(alloc, queue)?;
+    Ok(Change::Moved { id, queue, at: 4 })
+}
+
+fn retried(id: u64, retries: u64) -> Change {
+    Change::Retried {
+        id,
+        slot: 1,
+        retries,
+        until: None,
+        at: 4,
+    }
+}
+
+fn next(next: u64) -> Change {
+    Change::Counters {
+        next,
+        transaction: 2,
+        latest: 4,
+    }
+}
+
+fn plain(asked: Asked) -> Option<Change> {
+    match asked {
+        Asked::Retried(id, retries) => Some(retried(id, retries)),
+        Asked::Done(id, at) => Some(Change::Done { id, slot: 1, at }),
+        Asked::Expired(id) => Some(Change::Expired { id, slot: 1, at: 4 }),
+        Asked::Purged(id) => Some(Change::Purged { id }),
+        Asked::Seen(copy) => Some(Change::Seen(rows::seen(copy))),
+        Asked::Next(number) => Some(next(number)),
+        _ => None,
+    }
+}
+
+fn put(alloc: Global, asked: Asked) -> Result<Change, Fail> {
+    match asked {
+        Asked::Table => Ok(Change::PutTable(rows::table(alloc)?)),
+        Asked::Queue(name, is_exception) => put_queue(alloc, name, is_exception),
+        Asked::NoQueue(name) => no_queue(alloc, name),
+        Asked::Sub(queue) => Ok(Change::PutSub(rows::sub(alloc, queue)?)),
+        Asked::Schedule(queue, failures) => {
+            Ok(Change::PutSchedule(rows::schedule(alloc, queue, failures)?))
+        }
+        Asked::Message(id, queue, lane) => {
+            Ok(Change::Enqueued(rows::message(alloc, id, queue, lane)?))
+        }
+        Asked::Moved(id, queue) => moved(alloc, id, queue),
+        _ => Err("no row")?,
+    }
+}
+
+fn change(alloc: Global, asked: Asked) -> Result<Change, Fail> {
+    match plain(asked) {
+        Some(change) => Ok(change),
+        None => put(alloc, asked),
+    }
+}
+
+fn add_changes(changes: &mut List<Change>, alloc: Global, all: &[Asked]) -> Result<(), Fail> {
+    for asked in all {
+        changes.push(change(alloc, *asked)?)?;
+    }
+    Ok(())
+}
+
+/// The changes that are asked for.
+pub(crate) fn changes(alloc: Global, all: &[Asked]) -> Result<List<Change>, Fail> {
+    let mut changes = List::new(alloc);
+    add_changes(&mut changes, alloc, all)?;
+    Ok(changes)
+}

@@ -1,0 +1,150 @@
+// Commits over the same tables, each judged by what it names and by all rows.
+ghost use Rattle.std.specs.Prelude.{All, IsTrue};
+ghost use Rattle.message_store.specs.Numbers.{HasNumbers};
+
+use crate::asked::{Asked, changes};
+use commit_fits::stays_valid;
+use message_store::Store;
+use payload_records::List;
+use queue_rows::Change;
+use std::alloc::{AllocError, Global};
+use std::process::Abort;
+use std::test::Fail;
+use valid_tables::{is_valid, names_what_is_there};
+
+// ---- numbers that are small enough
+
+fn has_numbers(change: &Change) -> bool
+    ensures { IsTrue result → HasNumbers change.now }
+{
+    match change {
+        Change::Enqueued(row) => row.id < 1000 && row.group < 1000,
+        _ => true,
+    }
+}
+
+fn have_numbers(changes: &List<Change>) -> bool
+    ensures { IsTrue result → All HasNumbers changes.now }
+{
+    changes.iter().all(|change| has_numbers(change))
+}
+
+// ---- commits, change by change
+
+const MOMENT: u64 = 4;
+
+fn name_what_is_there(store: &Store, changes: &List<Change>) -> bool {
+    changes
+        .iter()
+        .all(|change| names_what_is_there(store, change))
+}
+
+// Whether each names what is there; then they are made.
+fn make(store: &mut Store, changes: &List<Change>) -> Result<bool, AllocError> {
+    if !name_what_is_there(store, changes) || !have_numbers(changes) {
+        return Ok(false);
+    }
+    store.commit(changes, MOMENT)?;
+    Ok(true)
+}
+
+fn make_one(store: &mut Store, alloc: Global, asked: &[Asked]) -> Result<bool, Fail> {
+    let changes = changes(alloc, asked)?;
+    Ok(make(store, &changes)?)
+}
+
+fn make_all(store: &mut Store, alloc: Global, all: &[Asked]) -> Result<bool, Fail> {
+    for asked in all.chunks(1) {
+        if !make_one(store, alloc, asked)? {
+            return Ok(false);
+        }
+    }
+    Ok(true)
+}
+
+// ---- the answer
+
+// Whether the tables are valid, where both judgements say the same.
+fn is_told(
+    store: &Store,
+    alloc: Global,
+    changes: &List<Change>,
+) -> Result<&'static str, AllocError> {
+    let valid = is_valid(alloc, store.tables())?;
+    if stays_valid(alloc, store, changes)? != valid {
+        return Ok("wrong");
+    }
+    Ok(if valid { "fits" } else { "invalid" })
+}
+
+fn told(store: &mut Store, alloc: Global, all: &[Asked]) -> Result<&'static str, Fail> {
+    if !make_all(store, alloc, all)? {
+        return Ok("misnamed");
+    }
+    let changes = changes(alloc, all)?;
+    Ok(is_told(store, alloc, &changes)?)
+}
+
+fn judged(alloc: Global, all: &[Asked]) -> Result<&'static str, Fail> {
+    let mut store = Store::new(alloc);
+    if told(&mut store, alloc, &BEFORE)? != "fits" {
+        return Ok("no beginning");
+    }
+    told(&mut store, alloc, all)
+}
+
+// ---- cases
+
+// A queue with two messages, in tables that are valid.
+const BEFORE: [Asked; 5] = [
+    Asked::Table,
+    Asked::Queue("t_e", true),
+    Asked::Queue("q", false),
+    Asked::Message(1, "q", 0),
+    Asked::Message(2, "q", -1),
+];
+
+type Case = (&'static [Asked], &'static str);
+
+const CASES: [Case; 28] = [
+    (&[], "fits"),
+    (&[Asked::Message(3, "q", -2)], "fits"),
+    (&[Asked::Message(2, "q", 0)], "misnamed"),
+    (&[Asked::Message(3, "none", 0)], "invalid"),
+    (&[Asked::Message(3, "q", -5)], "invalid"),
+    (&[Asked::Message(3, "q", -5), Asked::Purged(3)], "invalid"),
+    (&[Asked::Retried(1, 2)], "fits"),
+    (&[Asked::Retried(1, 3)], "invalid"),
+    (&[Asked::Retried(1, 3), Asked::Expired(1)], "fits"),
+    (&[Asked::Retried(1, 3), Asked::Purged(1)], "fits"),
+    (&[Asked::Done(1, 4)], "fits"),
+    (&[Asked::Done(1, 5)], "invalid"),
+    (&[Asked::Done(9, 4)], "misnamed"),
+    (&[Asked::Moved(1, "t_e")], "invalid"),
+    (&[Asked::Expired(1), Asked::Moved(1, "t_e")], "fits"),
+    (&[Asked::Expired(1), Asked::Moved(1, "q")], "invalid"),
+    (&[Asked::Purged(1), Asked::Done(1, 4)], "misnamed"),
+    (&[Asked::Seen(2)], "fits"),
+    (&[Asked::Seen(3)], "invalid"),
+    (&[Asked::Seen(2), Asked::Seen(1)], "misnamed"),
+    (&[Asked::Sub("q")], "fits"),
+    (&[Asked::Sub("t_e")], "invalid"),
+    (&[Asked::Schedule("q", 15)], "fits"),
+    (&[Asked::Schedule("q", 16)], "invalid"),
+    (&[Asked::NoQueue("q")], "fits"),
+    (&[Asked::NoQueue("t_e")], "invalid"),
+    (&[Asked::Next(3)], "fits"),
+    (&[Asked::Next(2)], "invalid"),
+];
+
+fn check(rt: &impl Abort, alloc: Global, cases: &[Case]) -> Result<(), Fail> {
+    for (at, case) in cases.iter().enumerate() {
+        assert_eq!(rt; judged(alloc, case.0)?, case.1, "case {at}");
+    }
+    Ok(())
+}
+
+#[test]
+fn commits_are_judged_by_what_they_name(rt: HostRuntime) -> Result<(), Fail> {
+    check(&rt, rt.alloc(), &CASES)
+}

@@ -1,0 +1,141 @@
+// The rows that commits put.
+use payload_records::{List, Name, Record, RecordType, Shared};
+use place_keys::{Column, Place, SortList};
+use queue_rows::{
+    MsgRow, QueueKind, QueueRow, ScheduleRow, SeenRow, SlotRow, SlotState, SubRow, TableRow,
+};
+use rule_conditions::Facts;
+use std::alloc::{AllocError, Global};
+use std::test::Fail;
+
+// ---- a queue table, its queues
+
+fn sort(alloc: Global) -> Result<SortList, Fail> {
+    let mut columns = List::new(alloc);
+    columns.push(Column::EnqTime)?;
+    Ok(SortList::of(columns).ok_or("no sort list")?)
+}
+
+/// The queue table `t`, for many consumers, of payloads without a field.
+pub(crate) fn table(alloc: Global) -> Result<TableRow, Fail> {
+    let name = Name::read(alloc, "t")?;
+    let fields = RecordType::of(List::new(alloc))?.ok_or("no type")?;
+    let columns = sort(alloc)?;
+    Ok(TableRow {
+        name,
+        fields,
+        columns,
+        multi: true,
+        grouped: false,
+    })
+}
+
+/// A queue of the table `t` that allows two retries.
+pub(crate) fn queue(alloc: Global, name: &str, kind: QueueKind) -> Result<QueueRow, Fail> {
+    let name = Name::read(alloc, name)?;
+    let table = Name::read(alloc, "t")?;
+    Ok(QueueRow {
+        name,
+        table,
+        kind,
+        enqueue: false,
+        dequeue: true,
+        max_retries: 2,
+        retry_delay: 0,
+        retention: 0,
+        lowest: 0,
+    })
+}
+
+// ---- subscribers, schedules, and what was seen
+
+/// The subscriber `a` of a queue.
+pub(crate) fn sub(alloc: Global, queue: &str) -> Result<SubRow, Fail> {
+    let queue = Name::read(alloc, queue)?;
+    let name = Name::read(alloc, "a")?;
+    Ok(SubRow {
+        queue,
+        name,
+        address: None,
+        rule: None,
+    })
+}
+
+/// An enabled schedule of a queue that has failed so often.
+pub(crate) fn schedule(alloc: Global, queue: &str, failures: u64) -> Result<ScheduleRow, Fail> {
+    let queue = Name::read(alloc, queue)?;
+    let to = Name::read(alloc, "far")?;
+    Ok(ScheduleRow {
+        queue,
+        to,
+        enabled: true,
+        start: 1,
+        duration: None,
+        period: None,
+        latency: 2,
+        failures,
+        next: 9,
+    })
+}
+
+/// The slot 1 of the other database's message 5, which came as a message of that number.
+pub(crate) fn seen(copy: u64) -> SeenRow {
+    SeenRow {
+        id: 5,
+        slot: 1,
+        copy,
+    }
+}
+
+// ---- messages
+
+fn slot(alloc: Global, name: &str) -> Result<SlotRow, Fail> {
+    let name = Some(Name::read(alloc, name)?);
+    Ok(SlotRow {
+        name,
+        address: None,
+        state: SlotState::Ready,
+        retries: 0,
+        at: 1,
+        expires: None,
+    })
+}
+
+fn slots(alloc: Global) -> Result<List<SlotRow>, Fail> {
+    let mut slots = List::new(alloc);
+    slots.push(slot(alloc, "a")?)?;
+    Ok(slots)
+}
+
+fn facts(alloc: Global) -> Result<Facts, AllocError> {
+    let cells = Shared::new(alloc, List::new(alloc))?;
+    Ok(Facts {
+        priority: 1,
+        corr: None,
+        cells: Record { cells },
+        props: List::new(alloc),
+    })
+}
+
+fn message_of(id: u32, queue: Name, place: Place, facts: Facts, slots: List<SlotRow>) -> MsgRow {
+    MsgRow {
+        id: u64::from(id),
+        queue,
+        place,
+        facts,
+        exception: None,
+        enq: 1,
+        group: 1,
+        moved: false,
+        slots,
+    }
+}
+
+/// A message of a queue in that lane, with one slot, which is ready for `a`.
+pub(crate) fn message(alloc: Global, id: u32, queue: &str, lane: i64) -> Result<MsgRow, Fail> {
+    let queue = Name::read(alloc, queue)?;
+    let place = Place::of(alloc, lane, &[1], u64::from(id))?;
+    let facts = facts(alloc)?;
+    let slots = slots(alloc)?;
+    Ok(message_of(id, queue, place, facts, slots))
+}

@@ -1,0 +1,8 @@
+use Rattle.std.proofs.Common.{◌≡◌, ◌++◌, string_bytes}
+use Rattle.std.specs.List.{flat_map}
+use Rattle.transcript.specs.Rows.{seen_line}
+use Rattle.transcript.proofs.dump.put_arrivals.Given as goal
+
+abbrev pub invariant-loop-row : goal.invariant-loop-row
+invariant-loop-row l =
+    string_bytes l.out ++ flat_map (seen_line l.db) l.row-iterator ≡ string_bytes l.fn.out ++ flat_map (seen_line l.db) l.rows
