@@ -1,6 +1,6 @@
 -- What is read in front of a journal's frames.
 use Rattle.std.proofs.Common.{◌≡◌, ℕ, ◌+◌, ◌-◌, ◌≤◌, min, Bool, true, false, not, List, [], length, take, drop, refl, ◌∙◌, ap, arith, length-drop}
-use Rattle.std.specs.Prelude.{slice_range, Some, None, Result, Ok, Err, if◌then◌else◌}
+use Rattle.std.specs.Prelude.{slice_range, None, Result, Ok, Err, if◌then◌else◌}
 use Rattle.std.proofs.lemmas.List.{take_min, take_rest}
 use Rattle.redo_journal.specs.Journal.{Chain, Outline, chain_from, is_header, is_root, is_known_version, version_at, pointer_of, outline_at, outline_of, mounted_at, mounted_of, frames_in, version_in, is_unbegun}
 use Rattle.redo_journal.specs.declared.frame.Damage.{Damage}

@@ -1,7 +1,7 @@
 -- A journal that is begun.
 use Rattle.std.specs.Prelude.{◌≡◌, ℕ, ◌≤◌, List, [], ◌∷◌, ◌++◌, length, drop, slice_index, if◌then◌else◌}
 use Rattle.redo_journal.specs.Journal.{Mounted, written_version, first_root, beginning, is_unbegun}
-use Rattle.redo_journal.specs.Broken.{IsDamaged}
+use Rattle.redo_journal.specs.Broken.{IsDamaged, IsOfKnownVersion}
 use Rattle.redo_journal.specs.declared.area.Found.{Found}
 use Rattle.redo_journal.specs.declared.mount.MountCause.{MountCause}
 use Rattle.redo_journal.specs.declared.mount.MountCause.TheVariants.{Fault, Damaged, Memory}
@@ -25,6 +25,11 @@ abbrev pub IsMountCause : MountCause → List ℕ → Type 0
 IsMountCause Fault bytes = Unit {0}
 IsMountCause (Damaged damage) bytes = IsDamaged damage bytes
 IsMountCause Memory bytes = Unit {0}
+
+abbrev pub IsCauseOfKnownVersion : MountCause → Type 0
+IsCauseOfKnownVersion Fault = Unit {0}
+IsCauseOfKnownVersion (Damaged damage) = IsOfKnownVersion damage
+IsCauseOfKnownVersion Memory = Unit {0}
 
 -- what a beginning makes of bytes: an open header, an area without frames, and what stood behind these
 abbrev pub begun_bytes : List ℕ → List ℕ

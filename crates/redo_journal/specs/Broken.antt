@@ -1,6 +1,7 @@
 -- When a chain of frames is broken, and when a journal is damaged.
 use Rattle.std.specs.Prelude.{◌≡◌, ℕ, List, Some, Result, Err}
-use Rattle.redo_journal.specs.Journal.{Chain, Outline, mounted_of, frames_in, version_in, journal, frames_of, version_of}
+use Rattle.std.specs.Option.{ForSome}
+use Rattle.redo_journal.specs.Journal.{Chain, Outline, IsKnownVersion, mounted_of, frames_in, version_in, journal, frames_of, version_of}
 use Rattle.redo_journal.specs.declared.frame.Damage.{Damage}
 use Rattle.redo_journal.specs.declared.read.ChainFault.{ChainFault}
 use Rattle.redo_journal.specs.declared.read.ChainFault.TheVariants.{Broken, Memory}
@@ -14,6 +15,14 @@ IsBrokenAt Memory chain = Unit {0}
 abbrev pub in_version : ℕ → ChainFault → ChainFault
 in_version version (Broken damage) = Broken (record { offset = damage.offset; version = Some version; frames = damage.frames })
 in_version version Memory = Memory
+
+-- the version that is told, where one is, is 1 or 2
+abbrev pub IsOfKnownVersion : Damage → Type 0
+IsOfKnownVersion damage = ForSome damage.version IsKnownVersion
+
+abbrev pub IsFaultOfKnownVersion : ChainFault → Type 0
+IsFaultOfKnownVersion (Broken damage) = IsOfKnownVersion damage
+IsFaultOfKnownVersion Memory = Unit {0}
 
 -- what is outlined so is damaged at this offset, behind these frames of an area of this version
 pub record IsOutlineDamaged (damage : Damage) (outlined : Result Outline ℕ) : Type 0 where

@@ -1,5 +1,5 @@
 -- The journal that the bytes of a disk are, or the offset at which they are damaged.
-use Rattle.std.specs.Prelude.{ℕ, zero, suc, ◌+◌, ◌-◌, ◌==◌, ◌||◌, ◌&&◌, nat_le, List, [], ◌∷◌, ◌++◌, length, drop, codes, slice_index, slice_range, Bool, not, Option, Some, None, Result, Ok, Err, if◌then◌else◌}
+use Rattle.std.specs.Prelude.{◌≡◌, ◌⊎◌, ℕ, zero, suc, ◌+◌, ◌-◌, ◌==◌, ◌||◌, ◌&&◌, nat_le, List, [], ◌∷◌, ◌++◌, length, drop, codes, slice_index, slice_range, Bool, not, Option, Some, None, Result, Ok, Err, if◌then◌else◌}
 use Rattle.std.specs.Int.{w32, w64, to_be_bytes, from_be_bytes}
 use Rattle.std.specs.List.{flat_map}
 use Rattle.std.specs.Str.{bytes_eq}
@@ -29,6 +29,10 @@ written_version = 2
 
 abbrev pub is_known_version : ℕ → Bool
 is_known_version version = version == 1 || version == 2
+
+-- so it is 1 or 2
+abbrev pub IsKnownVersion : ℕ → Type 0
+IsKnownVersion version = (version ≡ 1) ⊎ (version ≡ 2)
 
 -- the bodies of a frame, at least one
 abbrev pub body_list : List (List ℕ) → List ℕ

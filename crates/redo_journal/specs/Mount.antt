@@ -1,6 +1,6 @@
 -- What a mount answers.
 use Rattle.std.specs.Prelude.{ℕ, List, Result, Ok, Err}
-use Rattle.redo_journal.specs.Broken.{IsDamaged}
+use Rattle.redo_journal.specs.Broken.{IsDamaged, IsOfKnownVersion}
 use Rattle.redo_journal.specs.Journal.{Mounted}
 use Rattle.redo_journal.specs.Journaled.{Journaled}
 use Rattle.redo_journal.specs.declared.frame.FrameAt.{FrameAt}
@@ -16,6 +16,12 @@ abbrev pub IsDamage : {D : Type 0} → MountFault D → List ℕ → Type 0
 IsDamage (Fault disk) bytes = Unit {0}
 IsDamage (Damaged damage disk) bytes = IsDamaged damage bytes
 IsDamage (Memory disk) bytes = Unit {0}
+
+-- the version that damage is told with, where there is one, is 1 or 2
+abbrev pub HasKnownVersion : {D : Type 0} → MountFault D → Type 0
+HasKnownVersion (Fault disk) = Unit {0}
+HasKnownVersion (Damaged damage disk) = IsOfKnownVersion damage
+HasKnownVersion (Memory disk) = Unit {0}
 
 abbrev pub IsFault : {D : Type 0} → MountFault D → Type 0
 IsFault (Fault disk) = Unit {0}

@@ -1,10 +1,10 @@
 // What stands in front of a journal's frames.
-ghost use Rattle.std.specs.Prelude.{◌≡◌, ◌≤◌, ◌+◌, ◌^◌, ℕ, [], length, slice_range, Ok, Err, None, IfOk, IfErr};
+ghost use Rattle.std.specs.Prelude.{◌≡◌, ◌≤◌, ◌+◌, ◌^◌, ℕ, [], length, slice_range, Ok, Err, None, true, IfOk, IfErr};
 ghost use Rattle.std.specs.Int.{w64, from_be_bytes};
 ghost use Rattle.std.specs.Str.{bytes_eq};
-ghost use Rattle.redo_journal.specs.Journal.{is_header, side_of, root_of, version_at, is_unbegun, is_root, is_known_version, outline_at, outline_of, mounted_of, pointer_of};
+ghost use Rattle.redo_journal.specs.Journal.{is_header, side_of, root_of, version_at, is_unbegun, is_root, is_known_version, IsKnownVersion, outline_at, outline_of, mounted_of, pointer_of};
 ghost use Rattle.redo_journal.specs.Begun.{mounted_by};
-ghost use Rattle.redo_journal.specs.Broken.{IsDamagedAt, in_version};
+ghost use Rattle.redo_journal.specs.Broken.{IsDamagedAt, IsFaultOfKnownVersion, in_version};
 
 use crate::frame::{Active, Damage, FrameAt, Side};
 use crate::read::{ChainFault, frames_from};
@@ -108,7 +108,8 @@ fn is_root(root: u64, bytes: &[u8]) -> bool
 }
 
 fn is_known_version(version: u32) -> bool
-    ensures { result ≡ is_known_version version }
+    ensures value { result ≡ is_known_version version }
+    ensures known { result ≡ true → IsKnownVersion version }
 {
     version == 1 || version == 2
 }
@@ -126,7 +127,9 @@ fn no_area(alloc: Global, offset: u64) -> ChainFault
 
 // What is broken in the area of a version.
 fn in_version(version: u32, fault: ChainFault) -> ChainFault
-    ensures { result ≡ in_version version fault }
+    requires { IsKnownVersion version }
+    ensures value { result ≡ in_version version fault }
+    ensures known { IsFaultOfKnownVersion result }
 {
     match fault {
         ChainFault::Broken(damage) => ChainFault::Broken(Damage {
@@ -143,6 +146,8 @@ fn area_at(alloc: Global, side: Side, root: u64, bytes: &[u8]) -> Result<Found, 
     requires { length bytes.now ≤ 2 ^ 62 }
     ensures ok { IfOk result (λ f. mounted_of (outline_at side root bytes.now) ≡ Ok (mounted_by f)) }
     ensures damaged { IfErr result (λ e. IsDamagedAt e (outline_at side root bytes.now)) }
+    ensures version { IfOk result (λ f. IsKnownVersion f.version) }
+    ensures known { IfErr result IsFaultOfKnownVersion }
 {
     if !is_root(root, bytes) {
         return Err(no_area(alloc, pointer_of(side)));
@@ -166,6 +171,8 @@ pub(crate) fn find(alloc: Global, bytes: &[u8]) -> Result<Found, ChainFault>
     requires { length bytes.now ≤ 2 ^ 62 }
     ensures ok { IfOk result (λ f. mounted_of (outline_of bytes.now) ≡ Ok (mounted_by f)) }
     ensures damaged { IfErr result (λ e. IsDamagedAt e (outline_of bytes.now)) }
+    ensures version { IfOk result (λ f. IsKnownVersion f.version) }
+    ensures known { IfErr result IsFaultOfKnownVersion }
 {
     if !is_header(bytes) {
         return Err(no_area(alloc, 0));

@@ -1,5 +1,5 @@
 // A journal is begun on a disk that has none.
-ghost use Rattle.std.specs.Prelude.{◌≡◌, ◌≤◌, ◌+◌, [], ◌∷◌, ℕ, length, drop, slice_index, option_map, true, false, OnOk, IsSome};
+ghost use Rattle.std.specs.Prelude.{◌≡◌, ◌≤◌, ◌+◌, [], ◌∷◌, ℕ, length, drop, slice_index, option_map, true, false, None, OnOk, IsSome};
 ghost use Rattle.std.specs.Option.{ForSome};
 ghost use Rattle.aq_disk.specs.Causes.{HasCause};
 ghost use Rattle.aq_disk.specs.Disk.{KeepsEarlier};
@@ -35,6 +35,7 @@ fn close_header<D: Disk>(disk: &mut D, bytes: &[u8]) -> Result<(), Failed>
         → IsDiskSettled D.seen D.is_image D.calls disk.new) }
     ensures told { OnOk result (ForSome (D.seen disk.new) (λ _. IsSome (D.seen disk.old))) }
     ensures tells { OnOk result (ForSome (D.seen disk.old) (λ _. IsSome (D.seen disk.new))) }
+    ensures silent { D.seen disk.old ≡ None → D.seen disk.new ≡ None }
     ensures any_moment { CrashLeaves D.seen D.is_image D.calls disk.old disk.new (λ _. StandsForNone) }
     ensures earlier { KeepsEarlier (D.calls disk.old) (D.is_image disk.old) (D.is_image disk.new) }
     ensures later { D.calls disk.old ≤ D.calls disk.new }
@@ -51,6 +52,7 @@ fn open_header<D: Disk>(disk: &mut D) -> Result<(), Failed>
     requires { ForSome (D.seen disk.old) IsShut }
     ensures leaves { OnOk result (D.seen disk.new ≡ option_map begun_bytes (D.seen disk.old)) }
     ensures rests { OnOk result (HasJournal D.seen D.is_image D.calls disk.new begun_journal) }
+    ensures silent { D.seen disk.old ≡ None → D.seen disk.new ≡ None }
     ensures any_moment { CrashLeaves D.seen D.is_image D.calls disk.old disk.new (λ _. StandsForNone) }
     ensures earlier { KeepsEarlier (D.calls disk.old) (D.is_image disk.old) (D.is_image disk.new) }
     ensures later { D.calls disk.old ≤ D.calls disk.new }
@@ -66,6 +68,7 @@ pub(crate) fn begin<D: Disk>(disk: &mut D, bytes: &[u8]) -> Result<(), Failed>
     requires unbegun { is_unbegun bytes.now ≡ true }
     ensures leaves { OnOk result (D.seen disk.new ≡ option_map begun_bytes (D.seen disk.old)) }
     ensures rests { OnOk result (HasJournal D.seen D.is_image D.calls disk.new begun_journal) }
+    ensures silent { D.seen disk.old ≡ None → D.seen disk.new ≡ None }
     ensures any_moment { CrashLeaves D.seen D.is_image D.calls disk.old disk.new (λ _. StandsForNone) }
     ensures earlier { KeepsEarlier (D.calls disk.old) (D.is_image disk.old) (D.is_image disk.new) }
     ensures later { D.calls disk.old ≤ D.calls disk.new }

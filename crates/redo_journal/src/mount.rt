@@ -3,12 +3,12 @@ ghost use Rattle.std.specs.Prelude.{◌≡◌, ◌↔◌, ◌≤◌, ◌<◌, �
 ghost use Rattle.std.specs.Option.{ForSome};
 ghost use Rattle.aq_disk.specs.Causes.{Rose};
 ghost use Rattle.aq_disk.specs.Disk.{KeepsEarlier};
-ghost use Rattle.redo_journal.specs.Journal.{Mounted, journal, is_unbegun, outline_of};
-ghost use Rattle.redo_journal.specs.Broken.{IsDamagedAt};
+ghost use Rattle.redo_journal.specs.Journal.{IsKnownVersion, Mounted, journal, is_unbegun, outline_of};
+ghost use Rattle.redo_journal.specs.Broken.{IsDamagedAt, IsFaultOfKnownVersion};
 ghost use Rattle.redo_journal.specs.Runs.{IsDiskSettled, HasJournal, MountRuns};
-ghost use Rattle.redo_journal.specs.Begun.{begun_journal, mounted_by, after_mount, IsMountCause};
+ghost use Rattle.redo_journal.specs.Begun.{begun_journal, mounted_by, after_mount, IsMountCause, IsCauseOfKnownVersion};
 ghost use Rattle.redo_journal.specs.Journaled.{Rests, IsArea};
-ghost use Rattle.redo_journal.specs.Mount.{mounted_as, IsDamage, IsFault, disk_in, disk_after};
+ghost use Rattle.redo_journal.specs.Mount.{mounted_as, HasKnownVersion, IsDamage, IsFault, disk_in, disk_after};
 
 use crate::area::{Found, find, is_unbegun};
 use crate::begin::begin;
@@ -46,6 +46,7 @@ fn begun(alloc: Global) -> Found
 fn cause_of(fault: ChainFault) -> MountCause
     ensures same { (bytes : List ℕ) → is_unbegun bytes ≡ false
         → IsDamagedAt fault (outline_of bytes) → IsMountCause result bytes }
+    ensures known { IsFaultOfKnownVersion fault → IsCauseOfKnownVersion result }
     ensures no_fault { result ≡ MountCause.Fault → ⊥ }
 {
     match fault {
@@ -66,6 +67,9 @@ fn found_in<D: Disk>(alloc: Global, disk: &mut D, bytes: &[u8]) -> Result<Found,
     ensures area { IfOk result (λ f. IsArea f.active) }
     ensures few { IfOk result (λ f. length f.frames ≤ f.active.gate) }
     ensures damaged { IfErr result (λ e. IsMountCause e bytes.now) }
+    ensures version { IfOk result (λ f. IsKnownVersion f.version) }
+    ensures known { IfErr result IsCauseOfKnownVersion }
+    ensures silent { D.seen disk.old ≡ None → D.seen disk.new ≡ None }
     ensures crash { MountRuns D.seen D.is_image D.calls disk.old disk.new }
     ensures earlier { KeepsEarlier (D.calls disk.old) (D.is_image disk.old) (D.is_image disk.new) }
     ensures later { D.calls disk.old ≤ D.calls disk.new }
@@ -90,6 +94,7 @@ fn found_in<D: Disk>(alloc: Global, disk: &mut D, bytes: &[u8]) -> Result<Found,
 
 fn load_cause(fault: LoadFault) -> MountCause
     ensures silent { (bytes : List ℕ) → IsMountCause result bytes }
+    ensures known { IsCauseOfKnownVersion result }
     ensures fault { (result ≡ MountCause.Fault) ↔ (fault ≡ LoadFault.Fault) }
 {
     match fault {
@@ -109,6 +114,9 @@ pub(crate) fn found_on<D: Disk>(alloc: Global, disk: &mut D) -> Result<Found, Mo
     ensures area { IfOk result (λ f. IsArea f.active) }
     ensures few { IfOk result (λ f. length f.frames ≤ f.active.gate) }
     ensures damaged { IfErr result (λ e. ForSome (D.seen disk.old) (λ bytes. IsMountCause e bytes)) }
+    ensures version { IfOk result (λ f. IsKnownVersion f.version) }
+    ensures known { IfErr result IsCauseOfKnownVersion }
+    ensures silent { D.seen disk.old ≡ None → D.seen disk.new ≡ None }
     ensures crash { MountRuns D.seen D.is_image D.calls disk.old disk.new }
     ensures earlier { KeepsEarlier (D.calls disk.old) (D.is_image disk.old) (D.is_image disk.new) }
     ensures later { D.calls disk.old ≤ D.calls disk.new }
@@ -138,6 +146,7 @@ pub enum MountFault<D> {
 
 fn fault_of<D>(cause: MountCause, disk: D) -> MountFault<D>
     ensures damage { (bytes : List ℕ) → IsMountCause cause bytes → IsDamage result bytes }
+    ensures known { IsCauseOfKnownVersion cause → HasKnownVersion result }
     ensures disk { disk_in result ≡ disk }
     ensures fault { IsFault result ↔ (cause ≡ MountCause.Fault) }
 {
@@ -159,6 +168,9 @@ impl<D: Disk> Journal<D> {
         ensures unfailed { IfOk result (λ r. r.0.failed_at ≡ None) }
         ensures bytes { OnOk result (D.seen (disk_after result) ≡ option_map after_mount (D.seen disk)) }
         ensures damaged { IfErr result (λ e. ForSome (D.seen disk) (IsDamage e)) }
+        ensures version { IfOk result (λ r. IsKnownVersion r.0.version) }
+        ensures known { IfErr result HasKnownVersion }
+        ensures silent { D.seen disk ≡ None → D.seen (disk_after result) ≡ None }
 
         // A crash at any moment leaves what was read, or, where the disk was not begun, no commit.
         ensures crash { MountRuns D.seen D.is_image D.calls disk (disk_after result) }

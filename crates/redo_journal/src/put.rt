@@ -1,5 +1,5 @@
 // The calls on a disk by which a journal grows.
-ghost use Rattle.std.specs.Prelude.{◌≡◌, ◌≤◌, ◌<◌, ◌+◌, ◌^◌, ◌⊎◌, List, ℕ, Some, [], ◌∷◌, length, vec_capacity, option_map, OnOk, OnErr, IsSome};
+ghost use Rattle.std.specs.Prelude.{◌≡◌, ◌≤◌, ◌<◌, ◌+◌, ◌^◌, ◌⊎◌, List, ℕ, Some, None, [], ◌∷◌, length, vec_capacity, option_map, OnOk, OnErr, IsSome};
 ghost use Rattle.std.specs.Option.{ForSome};
 ghost use Rattle.aq_disk.specs.Causes.{HasCause};
 ghost use Rattle.aq_disk.specs.Disk.{KeepsEarlier};
@@ -18,6 +18,7 @@ pub(crate) fn put_frame<D: Disk>(disk: &mut D, gate: u64, frame: &[u8]) -> Resul
     requires limit { gate ≤ 2 ^ 62 }
     ensures bytes { OnOk result
         (D.seen disk.new ≡ option_map (framed_bytes gate frame.now) (D.seen disk.old)) }
+    ensures silent { D.seen disk.old ≡ None → D.seen disk.new ≡ None }
     ensures limit { OnOk result (gate + 1 + length frame.now ≤ 2 ^ 62) }
     ensures settled { OnOk result (IsDiskSettled D.seen D.is_image D.calls disk.new) }
     ensures any_moment { CrashLeaves D.seen D.is_image D.calls disk.old disk.new (TornFrame gate frame.now) }
@@ -58,6 +59,7 @@ pub(crate) fn put_queued<D: Disk>(
     ensures later { D.calls disk.old ≤ D.calls disk.new }
     ensures number { D.calls disk.new ≤ D.calls disk.old + 4 }
     ensures told { OnOk result (ForSome (D.seen disk.new) (λ _. IsSome (D.seen disk.old))) }
+    ensures silent { D.seen disk.old ≡ None → D.seen disk.new ≡ None }
     ensures cause { HasCause (D.faults disk.old) (D.faults disk.new) result }
 {
     encode(room, queued);
