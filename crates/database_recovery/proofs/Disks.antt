@@ -1,13 +1,13 @@
 -- What a disk is recovered to, by what its journal was read as.
-use Rattle.std.proofs.Common.{◌≡◌, ℕ, ◌++◌, inl, inr, List, Some, Result, Ok, Err, refl, ap, ◌∙◌}
-use Rattle.std.specs.Prelude.{fold}
-use Rattle.redo_journal.specs.Crash.{Contents, contents_in, contents_of, with_bodies}
-use Rattle.redo_journal.specs.Journal.{Mounted, Outline, bodies_in, frames_in, frames_of, journal, mounted_of, mounted_at, outline, version_in, version_of}
+use Rattle.std.proofs.Common.{◌≡◌, ℕ, ◌++◌, inl, inr, List, [], Bool, true, false, Some, Result, Ok, Err, refl, sym, ap, ◌∙◌}
+use Rattle.std.specs.Prelude.{fold, if◌then◌else◌}
+use Rattle.redo_journal.specs.Crash.{Contents, StandsForNone, contents_in, contents_of, with_bodies}
+use Rattle.redo_journal.specs.Journal.{Mounted, Outline, begun, bodies_in, frames_in, frames_of, is_unbegun, journal, mounted_of, mounted_at, outline, outline_of, version_in, version_of}
 use Rattle.redo_journal.specs.declared.frame.Damage.{Damage}
 use Rattle.queue_rows.specs.Tables.{empty_tables}
 use Rattle.redo_records.specs.Recovered.{after_bodies, after_frames, recovered, recovered_from, up_to_end}
 use Rattle.queue_rows.specs.declared.tables.Tables.{Tables}
-use Rattle.database_recovery.specs.Recovering.{AppendRecovers, ContentsRecover, JournalRecovers, DamageRecovers, up_to_damage}
+use Rattle.database_recovery.specs.Recovering.{AppendRecovers, ContentsRecover, JournalRecovers, DamageRecovers, MountRecovers, up_to_damage}
 use Rattle.database_recovery.proofs.Leading.{bodies_behind, frames_lead, led_on}
 
 same_ok : {T E : Type 0} (answer : Result T E) (x y : T) → answer ≡ Ok x → answer ≡ Ok y → x ≡ y
@@ -74,3 +74,19 @@ append_recovers m queued t u image stands led leads =
       | inl before ↦ inl (contents_recover (contents_in m) t image before led)
       | inr behind ↦ inr (contents_recover (with_bodies queued (contents_in m)) u image behind all)
     ]
+
+-- ---- mounting
+
+unbegun_recovers : (bytes : List ℕ) → is_unbegun bytes ≡ true → recovered bytes ≡ Ok empty_tables
+unfolding recovered outline
+unbegun_recovers bytes is = ap (λ (t : Bool). recovered_from (if t then Ok begun else outline_of bytes)) is
+
+left_recovers : (bytes image : List ℕ) (unbegun : Bool) → is_unbegun bytes ≡ unbegun → (is_unbegun bytes ≡ false → image ≡ bytes) → (is_unbegun bytes ≡ true → StandsForNone image)
+    → recovered image ≡ recovered bytes
+left_recovers bytes image true is same none =
+    let stands = none is in
+    contents_recover (record { version = stands.0; bodies = [] }) empty_tables image stands.1 refl ∙ sym (unbegun_recovers bytes is)
+left_recovers bytes image false is same none = ap recovered (same is)
+
+pub mount_recovers : MountRecovers
+mount_recovers bytes image same none = left_recovers bytes image (is_unbegun bytes) refl same none

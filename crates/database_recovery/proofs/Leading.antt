@@ -1,5 +1,5 @@
 -- Bodies behind bodies, as frames and as one list, and the body of a commit.
-use Rattle.std.proofs.Common.{◌≡◌, ℕ, true, List, [], ◌∷◌, ◌++◌, Option, Some, None, Ok, refl, sym, ap, ◌∙◌}
+use Rattle.std.proofs.Common.{◌≡◌, ℕ, true, List, [], ◌∷◌, ◌++◌, Option, Some, None, Result, Ok, refl, sym, ap, ◌∙◌}
 use Rattle.std.proofs.lemmas.Option.{none-some}
 use Rattle.std.specs.Prelude.{fold, option_and_then, ok_or, if◌then◌else◌}
 use Rattle.redo_journal.specs.Journal.{bodies_in, written_version}
@@ -8,11 +8,11 @@ use Rattle.redo_records.specs.Laws.{IsReadAgain}
 use Rattle.redo_records.specs.Recovered.{after_bodies, after_body, after_fitting}
 use Rattle.redo_records.specs.Spelling.{encode}
 use Rattle.queue_rows.specs.Fits.{fits}
-use Rattle.queue_rows.specs.Tables.{after}
+use Rattle.queue_rows.specs.Tables.{after, empty_tables}
 use Rattle.queue_rows.specs.declared.change.Commit.{Commit}
 use Rattle.queue_rows.specs.declared.tables.Tables.{Tables}
-use Rattle.database_recovery.specs.Recovering.{CommitLeadsOn, frames_from}
-use Rattle.database_recovery.proofs.Folding.{frame_goes_on, none_led}
+use Rattle.database_recovery.specs.Recovering.{BodiesJoin, CommitLeadsOn, FramesLead, frames_from}
+use Rattle.database_recovery.proofs.Folding.{frame_goes_on, frame_stops, none_led}
 
 -- what is led so far is led on by a body
 abbrev pub led_on : ℕ → Option Tables → List ℕ → Option Tables
@@ -24,6 +24,9 @@ fold_behind f b (x ∷ xs) ys = fold_behind f (f b x) xs ys
 
 pub bodies_behind : (version : ℕ) (t : Tables) (xs ys : List (List ℕ)) → after_bodies version t (xs ++ ys) ≡ fold (led_on version) (after_bodies version t xs) ys
 bodies_behind version t xs ys = fold_behind (led_on version) (Some t) xs ys
+
+pub bodies_join : BodiesJoin
+bodies_join version t u w front behind here on = bodies_behind version t front behind ∙ ap (λ left. fold (led_on version) left behind) here ∙ on
 
 -- ---- frames
 
@@ -40,6 +43,26 @@ frames_lead version t u [] e = ap (λ led. ok_or led 0) e
 frames_lead version t u (f ∷ frames) e =
     frame_leads version t u f frames (after_bodies version t f.bodies) refl
     (sym (bodies_behind version t f.bodies (bodies_in frames)) ∙ e) (λ w behind. frames_lead version w u frames behind)
+
+same_tables : (led : Result Tables ℕ) (t u : Tables) → led ≡ Ok t → led ≡ Ok u → t ≡ u
+same_tables led t u d e = cc
+
+-- the first frame led somewhere, since frames behind it led on
+frame_led : (version : ℕ) (t u : Tables) (f : FrameAt) (frames : List FrameAt) (led : Option Tables) → after_bodies version t f.bodies ≡ led
+    → frames_from version t (f ∷ frames) ≡ Ok u
+    → ((w : Tables) → frames_from version w frames ≡ Ok u → after_bodies version w (bodies_in frames) ≡ Some u)
+    → after_bodies version t (bodies_in (f ∷ frames)) ≡ Some u
+frame_led version t u f frames (Some w) here led rest =
+    bodies_join version t w u f.bodies (bodies_in frames) here (rest w (sym (frame_goes_on version t w f frames here) ∙ led))
+frame_led version t u f frames None here led rest = let stopped = frame_stops version t f frames here in absurd (cc)
+
+lead_by_bodies : (version : ℕ) (t u : Tables) (frames : List FrameAt) → frames_from version t frames ≡ Ok u → after_bodies version t (bodies_in frames) ≡ Some u
+lead_by_bodies version t u [] e = ap Some (same_tables (frames_from version t []) t u refl e)
+lead_by_bodies version t u (f ∷ frames) e =
+    frame_led version t u f frames (after_bodies version t f.bodies) refl e (λ w led. lead_by_bodies version w u frames led)
+
+pub bodies_lead : FramesLead
+bodies_lead version t frames e = lead_by_bodies version empty_tables t frames e
 
 -- ---- a commit
 

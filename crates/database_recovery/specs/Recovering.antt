@@ -2,8 +2,8 @@
 use Rattle.std.specs.Prelude.{◌≡◌, ◌⊎◌, ℕ, List, [], ◌∷◌, ◌++◌, Bool, true, false, Option, Some, None, Result, Ok, Err, fold}
 use Rattle.std.specs.Option.{option_map_or}
 use Rattle.redo_journal.specs.Broken.{IsDamaged}
-use Rattle.redo_journal.specs.Crash.{Contents, StandsFor, StandsForEither, contents_in, with_bodies}
-use Rattle.redo_journal.specs.Journal.{Mounted, bodies_in, journal, written_version}
+use Rattle.redo_journal.specs.Crash.{Contents, StandsFor, StandsForEither, StandsForNone, contents_in, with_bodies}
+use Rattle.redo_journal.specs.Journal.{Mounted, bodies_in, is_unbegun, journal, written_version}
 use Rattle.redo_journal.specs.declared.frame.Damage.{Damage}
 use Rattle.redo_journal.specs.declared.frame.FrameAt.{FrameAt}
 use Rattle.redo_records.specs.Spelled.{HasSpelling}
@@ -46,6 +46,21 @@ DamageRecovers = (bytes : List ℕ) (d : Damage) → IsDamaged d bytes → recov
 abbrev pub ContentsRecover : Type 0
 ContentsRecover = (c : Contents) (t : Tables) (image : List ℕ) → StandsFor c image → after_bodies c.version empty_tables c.bodies ≡ Some t
     → recovered image ≡ Ok t
+
+-- the law: mounting loses nothing: what it leaves of a disk, be it begun or not, is recovered to what the disk was recovered to
+abbrev pub MountRecovers : Type 0
+MountRecovers = (bytes image : List ℕ) → (is_unbegun bytes ≡ false → image ≡ bytes) → (is_unbegun bytes ≡ true → StandsForNone image)
+    → recovered image ≡ recovered bytes
+
+-- the law: where frames lead to tables, so do their bodies, as one list
+abbrev pub FramesLead : Type 0
+FramesLead = (version : ℕ) (t : Tables) (frames : List FrameAt) → after_frames version frames ≡ Ok t
+    → after_bodies version empty_tables (bodies_in frames) ≡ Some t
+
+-- the law: bodies that lead from tables to others, and bodies that lead on from there, lead all the way
+abbrev pub BodiesJoin : Type 0
+BodiesJoin = (version : ℕ) (t u w : Tables) (front behind : List (List ℕ)) → after_bodies version t front ≡ Some u
+    → after_bodies version u behind ≡ Some w → after_bodies version t (front ++ behind) ≡ Some w
 
 -- the law: a commit that fits leads on, by its bytes as they are written
 abbrev pub CommitLeadsOn : Type 0

@@ -1,5 +1,5 @@
 // Laws over the definitions, each a function without a body.
-ghost use Rattle.database_recovery.specs.Recovering.{JournalRecovers, DamageRecovers, ContentsRecover, AppendRecovers, CommitLeadsOn};
+ghost use Rattle.database_recovery.specs.Recovering.{JournalRecovers, DamageRecovers, ContentsRecover, AppendRecovers, MountRecovers, FramesLead, BodiesJoin, CommitLeadsOn};
 
 use redo_records::written_is_read;
 
@@ -25,6 +25,23 @@ pub fn contents_recover()
 #[tactic(auto, using(crate::proofs::Disks::append_recovers))]
 pub fn append_recovers()
     ensures { AppendRecovers }
+{}
+
+/// Mounting loses nothing: what it leaves of a disk at any moment is recovered to what the disk was recovered to.
+pub fn mount_recovers()
+    ensures { MountRecovers }
+{}
+
+/// Where frames lead to tables, so do their bodies, as one list.
+#[tactic(auto, using(crate::proofs::Leading::bodies_lead))]
+pub fn frames_lead()
+    ensures { FramesLead }
+{}
+
+/// Bodies that lead from tables to others, and bodies that lead on from there, lead all the way.
+#[tactic(auto, using(crate::proofs::Leading::bodies_join))]
+pub fn bodies_join()
+    ensures { BodiesJoin }
 {}
 
 /// A commit that fits leads on to the tables after it, by its bytes as they are written.

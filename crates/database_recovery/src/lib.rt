@@ -9,5 +9,6 @@ mod laws;
 pub use fault::RecoveryFault;
 pub use frames::{damaged_at, recover};
 pub use laws::{
-    append_recovers, commit_leads_on, contents_recover, damage_recovers, journal_recovers,
+    append_recovers, bodies_join, commit_leads_on, contents_recover, damage_recovers, frames_lead,
+    journal_recovers, mount_recovers,
 };
