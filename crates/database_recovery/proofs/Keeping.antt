@@ -24,6 +24,7 @@ use Rattle.queue_rows.specs.declared.change.Commit.{Commit}
 use Rattle.redo_records.specs.Spelled.{HasSpelling, IsDatum, IsMsgRow, IsRule, IsSpelled, IsSubRow, IsTableRow}
 use Rattle.database_recovery.specs.Sound.{HasReadRule, IsSound, has_full_cells, is_full}
 use Rattle.database_recovery.proofs.Each.{all_changed, all_kept, all_last, all_pass, all_put, all_without_first, both, each_passes}
+use Rattle.database_recovery.proofs.Spelled.{rows_after}
 
 abbrev IsOrdered : TableRow → Type 0
 IsOrdered row = is_in_order row.fields ≡ true
@@ -155,8 +156,9 @@ stays_sound version t c spelled fitting s =
       fields = all_pass (λ row. is_in_order row.fields) (after t c).tables u.fields;
       rules = u.rules;
       cells = all_pass has_full_cells (after t c).messages u.cells;
+      rows = rows_after version t c spelled (valid_after t c fitting) s.rows;
     }
 
 pub sound_at_first : (t : Tables) → t ≡ empty_tables → IsSound t
 unfolding is_valid
-sound_at_first t e = rw e (record { valid = refl; fields = refl; rules = tt; cells = refl })
+sound_at_first t e = rw e (record { valid = refl; fields = refl; rules = tt; cells = refl; rows = record { tables = tt; queues = tt; subs = tt; schedules = tt; messages = tt; seen = tt } })

@@ -4,3 +4,4 @@ pub mod Folding
 pub mod Judging
 pub mod Keeping
 pub mod Leading
+pub mod Spelled
