@@ -1,0 +1,82 @@
+// The rows of tables as the changes that put them.
+ghost use Rattle.std.specs.Prelude.{◌≡◌, ◌++◌, map, OnOk};
+ghost use Rattle.queue_rows.specs.declared.change.Change.{Change};
+ghost use Rattle.queue_rows.specs.declared.change.Change.TheVariants.{PutTable, PutQueue, PutSub, PutSchedule, Enqueued, Seen};
+
+use payload_records::{Copied, List};
+use queue_rows::{Change, MsgRow, QueueRow, ScheduleRow, SeenRow, SubRow, TableRow};
+use row_tree::Tree;
+use std::alloc::AllocError;
+
+/// A row that a change puts.
+pub(crate) trait Row: Copied {
+    /// The change that puts it.
+    ghost put: { Self → Change };
+
+    /// The change that puts it.
+    fn into_change(self) -> Change
+        ensures { result ≡ put self };
+}
+
+impl Row for TableRow {
+    ghost put = { PutTable };
+
+    fn into_change(self) -> Change {
+        Change::PutTable(self)
+    }
+}
+
+impl Row for QueueRow {
+    ghost put = { PutQueue };
+
+    fn into_change(self) -> Change {
+        Change::PutQueue(self)
+    }
+}
+
+impl Row for SubRow {
+    ghost put = { PutSub };
+
+    fn into_change(self) -> Change {
+        Change::PutSub(self)
+    }
+}
+
+impl Row for ScheduleRow {
+    ghost put = { PutSchedule };
+
+    fn into_change(self) -> Change {
+        Change::PutSchedule(self)
+    }
+}
+
+impl Row for SeenRow {
+    ghost put = { Seen };
+
+    fn into_change(self) -> Change {
+        Change::Seen(self)
+    }
+}
+
+/// Puts at the end of changes what puts each of these rows, in order.
+pub(crate) fn put_rows<R: Row>(changes: &mut Vec<Change>, rows: &List<R>) -> Result<(), AllocError>
+    ensures { OnOk result (changes.new.items ≡ changes.old.items ++ map R.put rows.now) }
+{
+    for row in rows {
+        changes.push(row.copied()?.into_change())?;
+    }
+    Ok(())
+}
+
+/// Puts at the end of changes what puts each of these messages, in order.
+pub(crate) fn put_messages(
+    changes: &mut Vec<Change>,
+    messages: &Tree<MsgRow>,
+) -> Result<(), AllocError>
+    ensures { OnOk result (changes.new.items ≡ changes.old.items ++ map Enqueued messages.now) }
+{
+    for message in messages {
+        changes.push(Change::Enqueued(message.copied()?))?;
+    }
+    Ok(())
+}
