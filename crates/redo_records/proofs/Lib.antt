@@ -8,4 +8,5 @@ pub mod RowLaws
 pub mod Septets
 pub mod Sorts
 pub mod Texts
+pub mod Typed
 pub mod Whole

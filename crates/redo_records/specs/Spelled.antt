@@ -108,6 +108,15 @@ pub record IsSlotRow (r : SlotRow) : Type 0 where
   pub at : IsNumber r.at
   pub expires : IfSome r.expires IsNumber
 
+-- what stands in front of the cells of a message
+pub record IsMsgFront (r : MsgRow) : Type 0 where
+  pub id : IsNumber r.id
+  pub queue : IsName r.queue
+  pub place : AreListed (λ z. IsNumber (zigzag z)) r.place
+  pub priority : IsNumber (zigzag r.facts.priority)
+  pub corr : IfSome r.facts.corr IsText
+  pub exception : IfSome r.exception IsName
+
 pub record IsMsgRow (version : ℕ) (r : MsgRow) : Type 0 where
   pub id : IsNumber r.id
   pub queue : IsName r.queue

@@ -106,11 +106,15 @@ slot_row r = optional run r.name ++ optional run r.address ++ state r.state ++ n
 abbrev pub props : ℕ → List Prop → List ℕ
 props version ps = if version == 1 then [] else listed prop ps
 
+-- what stands in front of a message's cells
+abbrev pub msg_front : MsgRow → List ℕ
+msg_front r =
+    num r.id ++ run r.queue ++ listed int r.place ++ int r.facts.priority ++ optional run r.facts.corr ++ optional run r.exception
+
 abbrev pub msg_row : ℕ → MsgRow → List ℕ
 msg_row version r =
-    num r.id ++ run r.queue ++ listed int r.place ++ int r.facts.priority ++ optional run r.facts.corr
-    ++ optional run r.exception ++ listed datum r.facts.cells.cells ++ num r.enq ++ num r.group ++ flag r.moved
-    ++ listed slot_row r.slots ++ props version r.facts.props
+    msg_front r ++ listed datum r.facts.cells.cells ++ num r.enq ++ num r.group ++ flag r.moved ++ listed slot_row r.slots
+    ++ props version r.facts.props
 
 abbrev pub seen_row : SeenRow → List ℕ
 seen_row r = num r.id ++ num r.slot ++ num r.copy

@@ -1,8 +1,10 @@
 // Commits: a moment, and one or more changes.
-ghost use Rattle.std.specs.Prelude.{◌≡◌, length, IfOk, IsErrOf, Some, None};
+ghost use Rattle.std.specs.Prelude.{◌≡◌, length, IfOk, OnOk, IsErrOf, Some, None};
 ghost use Rattle.redo_records.specs.Gives.{Gives};
 ghost use Rattle.redo_records.specs.Laws.{IsVersion};
 ghost use Rattle.redo_records.specs.Reading.{changes_of, decode};
+ghost use Rattle.redo_records.specs.Spellable.{CanBeSpelled};
+ghost use Rattle.redo_records.specs.Spelled.{HasSpelling};
 ghost use Rattle.redo_records.specs.Spelling.{encode};
 
 use crate::DecodeFault;
@@ -12,10 +14,12 @@ use payload_records::List;
 use queue_rows::{Change, Commit};
 use std::alloc::{AllocError, Global};
 
-/// The one spelling of a commit, in version 2. It fails only for want of memory.
+/// The one spelling of a commit, in version 2, which is read again as it where the commit can be spelled: what its types leave open
+/// of that `CanBeSpelled` says. It fails for want of memory, and for a name that is too long to be one.
 #[tactic(auto, unfolding(crate::specs::Spelling::spelling))]
 pub fn encode(commit: &Commit) -> Result<Vec<u8>, AllocError>
-    ensures { IfOk result (λ v. v.items ≡ encode commit.now) }
+    ensures bytes { IfOk result (λ v. v.items ≡ encode commit.now) }
+    ensures spelled { OnOk result (CanBeSpelled commit.now → HasSpelling 2 commit.now) }
 {
     let mut out = Vec::new(commit.changes.allocator());
     put_num(&mut out, commit.moment)?;

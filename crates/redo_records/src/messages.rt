@@ -3,11 +3,13 @@ ghost use Rattle.std.specs.Prelude.{◌≡◌, ◌++◌, OnOk};
 ghost use Rattle.redo_journal.specs.Num.{listed, listed_at};
 ghost use Rattle.redo_records.specs.Gives.{Gives};
 ghost use Rattle.redo_records.specs.Reading.{datum_at, int_at, slot_row_at, props_at, msg_behind_front, msg_row_at};
-ghost use Rattle.redo_records.specs.Spelling.{datum, slot_row, msg_row};
+ghost use Rattle.redo_records.specs.Spellable.{HasFullData, IsFull};
+ghost use Rattle.redo_records.specs.Spelled.{AreListed, IsDatum, IsMsgFront, IsMsgRow, IsSlotRow};
+ghost use Rattle.redo_records.specs.Spelling.{datum, slot_row, msg_front, msg_row};
 
 use crate::DecodeFault;
 use crate::lists::{flag_at, list_at, optional_at, put_flag, put_ints, put_list, put_optional};
-use crate::numbers::{int_at, num_at, put_int, put_num};
+use crate::numbers::{int_at, num_at, put_num};
 use crate::parts::{put_state, state_at};
 use crate::spelled::Spelled;
 use payload_records::{Datum, List, Name, Prop, Record, Shared, Text};
@@ -20,6 +22,8 @@ impl Spelled for SlotRow {
     ghost spell = { slot_row };
 
     ghost read = { slot_row_at };
+
+    ghost by_type = { IsSlotRow };
 
     fn put(&self, out: &mut Vec<u8>) -> Result<(), AllocError> {
         put_optional(out, &self.name)?;
@@ -58,7 +62,8 @@ fn place_at(alloc: Global, bytes: &[u8]) -> Result<(Place, &[u8]), DecodeFault>
 }
 
 fn put_cells(out: &mut Vec<u8>, cells: &Shared<List<Datum>>) -> Result<(), AllocError>
-    ensures { OnOk result (out.new.items ≡ out.old.items ++ listed datum cells.now) }
+    ensures bytes { OnOk result (out.new.items ≡ out.old.items ++ listed datum cells.now) }
+    ensures typed { OnOk result (AreListed (λ cell. IsFull cell → IsDatum cell) cells.now) }
 {
     put_list::<Datum>(out, cells)
 }
@@ -79,16 +84,25 @@ fn props_at(alloc: Global, version: u32, bytes: &[u8]) -> Result<(List<Prop>, &[
     list_at(alloc, bytes)
 }
 
-/// Writes a message at the end, in version 2.
-pub(crate) fn put_msg_row(out: &mut Vec<u8>, row: &MsgRow) -> Result<(), AllocError>
-    ensures { OnOk result (out.new.items ≡ out.old.items ++ msg_row 2 row.now) }
+// Writes what stands in front of a message's cells at the end.
+fn put_msg_front(out: &mut Vec<u8>, row: &MsgRow) -> Result<(), AllocError>
+    ensures bytes { OnOk result (out.new.items ≡ out.old.items ++ msg_front row.now) }
+    ensures typed { OnOk result (IsMsgFront row.now) }
 {
     put_num(out, row.id)?;
     row.queue.put(out)?;
     put_ints(out, row.place.numbers())?;
-    put_int(out, row.facts.priority)?;
+    row.facts.priority.put(out)?;
     put_optional(out, &row.facts.corr)?;
-    put_optional(out, &row.exception)?;
+    put_optional(out, &row.exception)
+}
+
+/// Writes a message at the end, in version 2.
+pub(crate) fn put_msg_row(out: &mut Vec<u8>, row: &MsgRow) -> Result<(), AllocError>
+    ensures bytes { OnOk result (out.new.items ≡ out.old.items ++ msg_row 2 row.now) }
+    ensures typed { OnOk result (HasFullData row.now → IsMsgRow 2 row.now) }
+{
+    put_msg_front(out, row)?;
     put_cells(out, &row.facts.cells.cells)?;
     put_num(out, row.enq)?;
     put_num(out, row.group)?;

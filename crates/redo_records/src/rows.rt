@@ -2,11 +2,13 @@
 ghost use Rattle.std.specs.Prelude.{◌≡◌, ◌++◌, OnOk, IfSome, IfNone, true, false};
 ghost use Rattle.redo_records.specs.Gives.{Gives};
 ghost use Rattle.redo_records.specs.Reading.{is_sort_list, fields_at, columns_at, table_row_at, queue_row_at, sub_row_at, schedule_row_at, seen_row_at};
+ghost use Rattle.redo_records.specs.Spellable.{HasReadRule};
+ghost use Rattle.redo_records.specs.Spelled.{IsTableRow, IsQueueRow, IsSubRow, IsScheduleRow, IsSeenRow};
 ghost use Rattle.redo_records.specs.Spelling.{table_row, queue_row, sub_row, schedule_row, seen_row};
 
 use crate::DecodeFault;
 use crate::lists::{flag_at, list_at, optional_at, put_flag, put_list, put_optional};
-use crate::numbers::{int_at, num_at, put_int, put_num};
+use crate::numbers::{int_at, num_at, put_num};
 use crate::parts::{put_queue_kind, queue_kind_at};
 use crate::spelled::Spelled;
 use payload_records::{List, Name, RecordType};
@@ -45,7 +47,8 @@ fn columns_at(alloc: Global, bytes: &[u8]) -> Result<(SortList, &[u8]), DecodeFa
 
 /// Writes a table at the end.
 pub(crate) fn put_table_row(out: &mut Vec<u8>, row: &TableRow) -> Result<(), AllocError>
-    ensures { OnOk result (out.new.items ≡ out.old.items ++ table_row row.now) }
+    ensures bytes { OnOk result (out.new.items ≡ out.old.items ++ table_row row.now) }
+    ensures typed { OnOk result (IsTableRow row.now) }
 {
     row.name.put(out)?;
     put_list(out, row.fields.fields())?;
@@ -76,7 +79,8 @@ pub(crate) fn table_row_at(alloc: Global, bytes: &[u8]) -> Result<(TableRow, &[u
 
 /// Writes a queue at the end.
 pub(crate) fn put_queue_row(out: &mut Vec<u8>, row: &QueueRow) -> Result<(), AllocError>
-    ensures { OnOk result (out.new.items ≡ out.old.items ++ queue_row row.now) }
+    ensures bytes { OnOk result (out.new.items ≡ out.old.items ++ queue_row row.now) }
+    ensures typed { OnOk result (IsQueueRow row.now) }
 {
     row.name.put(out)?;
     row.table.put(out)?;
@@ -86,7 +90,7 @@ pub(crate) fn put_queue_row(out: &mut Vec<u8>, row: &QueueRow) -> Result<(), All
     put_num(out, row.max_retries)?;
     put_num(out, row.retry_delay)?;
     put_num(out, row.retention)?;
-    put_int(out, row.lowest)
+    row.lowest.put(out)
 }
 
 /// The queue at the front, and what stands behind it.
@@ -119,7 +123,8 @@ pub(crate) fn queue_row_at(alloc: Global, bytes: &[u8]) -> Result<(QueueRow, &[u
 
 /// Writes a subscriber at the end.
 pub(crate) fn put_sub_row(out: &mut Vec<u8>, row: &SubRow) -> Result<(), AllocError>
-    ensures { OnOk result (out.new.items ≡ out.old.items ++ sub_row row.now) }
+    ensures bytes { OnOk result (out.new.items ≡ out.old.items ++ sub_row row.now) }
+    ensures typed { OnOk result (HasReadRule row.now → IsSubRow row.now) }
 {
     row.queue.put(out)?;
     row.name.put(out)?;
@@ -147,7 +152,8 @@ pub(crate) fn sub_row_at(alloc: Global, bytes: &[u8]) -> Result<(SubRow, &[u8]),
 
 /// Writes a schedule at the end.
 pub(crate) fn put_schedule_row(out: &mut Vec<u8>, row: &ScheduleRow) -> Result<(), AllocError>
-    ensures { OnOk result (out.new.items ≡ out.old.items ++ schedule_row row.now) }
+    ensures bytes { OnOk result (out.new.items ≡ out.old.items ++ schedule_row row.now) }
+    ensures typed { OnOk result (IsScheduleRow row.now) }
 {
     row.queue.put(out)?;
     row.to.put(out)?;
@@ -193,7 +199,8 @@ pub(crate) fn schedule_row_at(
 
 /// Writes an arrival at the end.
 pub(crate) fn put_seen_row(out: &mut Vec<u8>, row: &SeenRow) -> Result<(), AllocError>
-    ensures { OnOk result (out.new.items ≡ out.old.items ++ seen_row row.now) }
+    ensures bytes { OnOk result (out.new.items ≡ out.old.items ++ seen_row row.now) }
+    ensures typed { OnOk result (IsSeenRow row.now) }
 {
     put_num(out, row.id)?;
     put_num(out, row.slot)?;
