@@ -191,6 +191,7 @@ impl<D: Disk> Journal<D> {
         ensures ok { OnOk result (ForSome (D.seen self.old.disk) (λ _. (m : Mounted)
             → 1 ≤ length self.old.queued → Rests D.seen D.is_image D.calls self.old m
             → Rests D.seen D.is_image D.calls self.new (with_frame self.old.queued m))) }
+        ensures tells { OnOk result (ForSome (D.seen self.old.disk) (λ _. IsSome (D.seen self.new.disk))) }
         ensures silent { D.seen self.old.disk ≡ None → D.seen self.new.disk ≡ None }
         ensures queued { OnOk result (self.new.queued ≡ []) }
         ensures fine { OnOk result (self.new.failed_at ≡ None) }

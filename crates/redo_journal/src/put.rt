@@ -59,6 +59,7 @@ pub(crate) fn put_queued<D: Disk>(
     ensures later { D.calls disk.old ≤ D.calls disk.new }
     ensures number { D.calls disk.new ≤ D.calls disk.old + 4 }
     ensures told { OnOk result (ForSome (D.seen disk.new) (λ _. IsSome (D.seen disk.old))) }
+    ensures tells { OnOk result (ForSome (D.seen disk.old) (λ _. IsSome (D.seen disk.new))) }
     ensures silent { D.seen disk.old ≡ None → D.seen disk.new ≡ None }
     ensures cause { HasCause (D.faults disk.old) (D.faults disk.new) result }
 {
