@@ -1,0 +1,12 @@
+pub mod Adding
+pub mod Calling
+pub mod Changing
+pub mod Each
+pub mod Examples
+pub mod Judging
+pub mod Keeping
+pub mod Rules
+pub mod Sending
+pub mod Sounding
+pub mod Walking
+pub mod Worlds

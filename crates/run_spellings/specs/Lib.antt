@@ -1,0 +1,4 @@
+pub mod Examples
+pub mod Spellable
+pub mod SpellableRun
+pub mod SpellingLaws
