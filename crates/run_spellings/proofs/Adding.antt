@@ -43,7 +43,7 @@ use Rattle.queue_rows.specs.declared.statement.Statement.TheVariants as statemen
 use Rattle.queue_rows.specs.declared.statement.Visibility.{Visibility}
 use Rattle.queue_rows.specs.declared.statement.Visibility.TheVariants.{OnCommit, Immediate}
 use Rattle.statement_laws.proofs.Among.{Says, says_if}
-use Rattle.run_spellings.specs.Spellable.{HasFullData, IsFull}
+use Rattle.redo_records.specs.Spellable.{HasFullData, IsFull}
 use Rattle.run_spellings.specs.SpellableRun.{AreFullAdditions, AreSpellable, IsFullAddition}
 use Rattle.run_spellings.proofs.Changing.{commit_spells}
 use Rattle.run_spellings.proofs.Each.{each_last, same_ok, not_both}

@@ -22,7 +22,7 @@ use Rattle.queue_rows.specs.declared.session.Pending.TheVariants.{Add, Remove}
 use Rattle.queue_rows.specs.declared.change.Change.{Change}
 use Rattle.queue_rows.specs.declared.change.Change.TheVariants as changes
 use Rattle.queue_rows.specs.declared.history.SlotRef.{SlotRef}
-use Rattle.run_spellings.specs.Spellable.{HasFullData, IsFull, IsSpellable}
+use Rattle.redo_records.specs.Spellable.{HasFullData, IsFull, IsSpellable}
 use Rattle.run_spellings.specs.SpellableRun.{AreFullAdditions, AreSpellable}
 use Rattle.run_spellings.proofs.Each.{each_append, each_flat, each_if}
 

@@ -25,7 +25,7 @@ use Rattle.queue_rows.specs.declared.change.Change.TheVariants as changes
 use Rattle.queue_rows.specs.declared.reply.ConditionFault.{ConditionFault}
 use Rattle.queue_rows.specs.declared.statement.Admin.{Admin}
 use Rattle.queue_rows.specs.declared.statement.Admin.TheVariants as asks
-use Rattle.run_spellings.specs.Spellable.{IsSpellable}
+use Rattle.redo_records.specs.Spellable.{IsSpellable}
 use Rattle.run_spellings.specs.SpellableRun.{AreSpellable, asks_text_rule}
 use Rattle.run_spellings.proofs.Each.{each_flat, each_found}
 use Rattle.run_spellings.proofs.Rules.{rule_given}

@@ -11,7 +11,7 @@ use Rattle.queue_rows.specs.declared.rows.SlotState.TheVariants as states
 use Rattle.queue_rows.specs.declared.tables.Tables.{Tables}
 use Rattle.queue_rows.specs.declared.change.Change.{Change}
 use Rattle.queue_rows.specs.declared.change.Change.TheVariants as changes
-use Rattle.run_spellings.specs.Spellable.{HasFullData, HasReadRule, IsSpellable}
+use Rattle.redo_records.specs.Spellable.{HasFullData, HasReadRule, IsSpellable}
 use Rattle.run_spellings.specs.SpellableRun.{AreSpellable, HasSpellableRows}
 use Rattle.run_spellings.proofs.Each.{each_changed, each_kept, each_last, each_put, each_without}
 

@@ -18,7 +18,7 @@ use Rattle.history_fates.specs.Arrivals.{other_db}
 use Rattle.run_laws.specs.World.{World, database_at}
 use Rattle.run_laws.specs.Sending.{Sending, offers, arrives, confirms, next_sending}
 use Rattle.run_laws.proofs.Sendings.{arrives_so, confirms_so}
-use Rattle.run_spellings.specs.Spellable.{HasFullData, IsFull}
+use Rattle.redo_records.specs.Spellable.{HasFullData, IsFull}
 use Rattle.run_spellings.specs.SpellableRun.{AreSpellable, HasSpellableRows, IsSpellableSending, IsSpellableWorld}
 use Rattle.run_spellings.proofs.Changing.{confirming_spells}
 use Rattle.run_spellings.proofs.Each.{each_of_found}

@@ -15,7 +15,7 @@ use Rattle.queue_rows.specs.declared.rows.QueueRow.{QueueRow}
 use Rattle.queue_rows.specs.declared.rows.MsgRow.{MsgRow}
 use Rattle.valid_laws.proofs.Parts.{and_l, and_r, valid_messages}
 use Rattle.database_recovery.specs.Sound.{IsSound, has_full_cells, is_full}
-use Rattle.run_spellings.specs.Spellable.{HasFullData, IsFull}
+use Rattle.redo_records.specs.Spellable.{HasFullData, IsFull}
 use Rattle.run_spellings.specs.SpellableRun.{HasSpellableRows}
 use Rattle.run_spellings.proofs.Adding.{props_full}
 

@@ -36,7 +36,7 @@ use Rattle.run_laws.specs.ValidRun.{IsValidWorld}
 use Rattle.run_laws.proofs.Positions.{was_at}
 use Rattle.run_laws.proofs.Stepping.{Leads, no_changes, no_ids, only_at, ids_at, world_at, called_at, call_leads, call_sessions, step_sessions, leads_with_session, leads_with_transit, leads_durable}
 use Rattle.run_laws.proofs.Worlds.{quiet_leads, timed_leads, due_changes, arrival_changes, arrival_leads, arrival_sessions, own_of, other_of, is_one, confirm_leads, confirm_sessions, read_tables, opens_valid, reading_keeps_valid, step_keeps_valid}
-use Rattle.run_spellings.specs.Spellable.{CanBeSpelled}
+use Rattle.redo_records.specs.Spellable.{CanBeSpelled}
 use Rattle.run_spellings.specs.SpellableRun.{AreFullAdditions, AreSpellable, HasSpellableRows, have_text_rules, IsSpellableEntry, IsSpellableWorld, MayBeSpelled}
 use Rattle.run_spellings.proofs.Calling.{call_answers}
 use Rattle.run_spellings.proofs.Changing.{due_spells}

@@ -1,4 +1,3 @@
 pub mod Examples
-pub mod Spellable
 pub mod SpellableRun
 pub mod SpellingLaws

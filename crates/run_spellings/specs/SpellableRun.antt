@@ -17,7 +17,7 @@ use Rattle.queue_rows.specs.declared.statement.Statement.{Statement}
 use Rattle.queue_rows.specs.declared.statement.Statement.TheVariants as statements
 use Rattle.run_laws.specs.World.{World, database_at}
 use Rattle.run_laws.specs.Sending.{Sending, offers, arrives, confirms}
-use Rattle.run_spellings.specs.Spellable.{HasFullData, HasReadRule, IsSpellable}
+use Rattle.redo_records.specs.Spellable.{HasFullData, HasReadRule, IsSpellable}
 
 -- ---- tables and changes
 

@@ -28,7 +28,7 @@ use Rattle.run_laws.specs.Sending.{Sending, next_sending}
 use Rattle.run_laws.specs.Statements.{meaning, next_statement}
 use Rattle.run_laws.specs.Legal.{MayStep, IsLegal, IsLegalHistory}
 use Rattle.run_laws.specs.ValidRun.{IsValidWorld}
-use Rattle.run_spellings.specs.Spellable.{CanBeSpelled}
+use Rattle.redo_records.specs.Spellable.{CanBeSpelled}
 use Rattle.run_spellings.specs.SpellableRun.{AreSpellable, HasSpellableRows, IsSpellableSending, IsSpellableWorld, MayBeSpelled}
 
 -- ---- rules
