@@ -90,15 +90,3 @@ durable_same db e xs h = ap (made db) (until_same e xs h)
 
 pub durable_all : (db : DbId) (e : Entry) (xs : List Entry) → is_flush e.step ≡ true → durable db (xs ++ e ∷ []) ≡ made db (xs ++ e ∷ [])
 durable_all db e xs h = ap (made db) (until_all e xs h)
-
-cut_made : (db : DbId) (b : Bool) (x : Entry) (xs ys : List Entry) → made db xs ≤ made db ys → made db (if b then x ∷ xs else []) ≤ made db (x ∷ ys)
-cut_made db true x xs ys h =
-    let one = ap length (commits-append db (x ∷ []) xs) in
-    let two = ap length (commits-append db (x ∷ []) ys) in
-    omega (arith, one, two, h, length-append (commits_of db (x ∷ [])) (commits_of db xs), length-append (commits_of db (x ∷ [])) (commits_of db ys))
-cut_made db false x xs ys h = omega arith
-
--- no more are durable than were made
-pub durable_made : (db : DbId) (xs : List Entry) → durable db xs ≤ made db xs
-durable_made db [] = omega arith
-durable_made db (x ∷ xs) = cut_made db (list_any is_flush_entry (x ∷ xs)) x (until_flush xs) xs (durable_made db xs)

@@ -1,14 +1,14 @@
 -- The laws, of any type of disks.
-use Rattle.std.proofs.Common.{ℕ, List, refl, sym, subst, arith}
+use Rattle.std.proofs.Common.{ℕ, List, sym, subst, arith}
 use Rattle.queue_rows.specs.declared.tables.Tables.{Tables}
 use Rattle.history_fates.specs.Durability.{made}
 use Rattle.crash_laws.specs.Crash.{Recovers, with_entry}
 use Rattle.crash_laws.specs.CrashLaws.{OpeningSurvives, CallsPass, FlushLeaves, EntryComes, FlushComes}
-use Rattle.crash_laws.proofs.Splitting.{durable_same, durable_all, durable_made}
+use Rattle.crash_laws.proofs.Splitting.{durable_same, durable_all}
 use Rattle.crash_laws.proofs.Surviving.{opening_survives, time_passes, quiet_entry_comes, entry_comes, all_made, either_is_first}
 
 pub flush_leaves : FlushLeaves
-flush_leaves r image either = either_is_first r _ _ image (durable_made r.db r.entries) refl refl either
+flush_leaves r k image least most either = either_is_first r k image least most either
 
 module _ {D : Type 0} (images : D → ℕ → List ℕ → Type 0) (calls : D → ℕ) where
   pub opening_stands : OpeningSurvives images calls

@@ -133,10 +133,9 @@ module _ (r : Run) (e : Entry) (calls : ℕ) (images : ℕ → List ℕ → Type
 pub all_made : (r : Run) → tables_at (made r.db r.entries) r ≡ after_commits r.opening (commits_of r.db r.entries)
 all_made r = ap (after_commits r.opening) (take_all (made r.db r.entries) (commits_of r.db r.entries) (omega arith))
 
-pub either_is_first : (r : Run) (saved tables : Tables) (image : List ℕ) → durable r.db r.entries ≤ made r.db r.entries → saved ≡ tables_at (durable r.db r.entries) r
-    → tables ≡ after_commits r.opening (commits_of r.db r.entries) → RecoversEither saved tables image
+pub either_is_first : (r : Run) (k : ℕ) (image : List ℕ) → durable r.db r.entries ≤ k → k ≤ made r.db r.entries
+    → RecoversEither (tables_at k r) (after_commits r.opening (commits_of r.db r.entries)) image
     → RecoversFirst r.opening (commits_of r.db r.entries) (durable r.db r.entries) (made r.db r.entries) image
-either_is_first r saved tables image le is are (inl before) =
-    record { k = durable r.db r.entries; at_least = omega arith; at_most = le; recovers = subst (λ (t : Tables). Recovers t image) is before }
-either_is_first r saved tables image le is are (inr behind) =
-    record { k = made r.db r.entries; at_least = le; at_most = omega arith; recovers = subst (λ (t : Tables). Recovers t image) (are ∙ sym (all_made r)) behind }
+either_is_first r k image least most (inl before) = record { k = k; at_least = least; at_most = most; recovers = before }
+either_is_first r k image least most (inr behind) =
+    record { k = made r.db r.entries; at_least = omega (arith, least, most); at_most = omega arith; recovers = subst (λ (t : Tables). Recovers t image) (sym (all_made r)) behind }

@@ -5,7 +5,7 @@ use Rattle.aq_disk.specs.Disk.{EachImage, KeepsEarlier}
 use Rattle.queue_rows.specs.declared.tables.Tables.{Tables}
 use Rattle.queue_rows.specs.declared.history.Entry.{Entry}
 use Rattle.fate_laws.specs.Made.{commits_of, after_commits}
-use Rattle.history_fates.specs.Durability.{is_flush, durable}
+use Rattle.history_fates.specs.Durability.{is_flush, made, durable}
 use Rattle.crash_laws.specs.Crash.{Run, Recovers, RecoversEither, RecoversRun, SurvivesCrash, calls_in, opened_run, with_entry, tables_at}
 
 -- a run without entries survives where each image since mounting began recovers its opening
@@ -18,9 +18,10 @@ abbrev pub CallsPass : {D : Type 0} → (D → ℕ → List ℕ → Type 0) → 
 CallsPass {D} images calls = (r : Run) (old new : D) → SurvivesCrash r (calls old) (images old) → calls old ≤ calls new → KeepsEarlier (calls old) (images old) (images new)
     → EachImage (calls old) (calls new) (images new) (RecoversRun r) → SurvivesCrash r (calls new) (images new)
 
--- each image of a flush is such a one: it recovers what was durable, or all that was made
+-- each image of a flush is such a one: it recovers what was on the disk, which is no less than was durable, or all that was made
 abbrev pub FlushLeaves : Type 0
-FlushLeaves = (r : Run) (image : List ℕ) → RecoversEither (tables_at (durable r.db r.entries) r) (after_commits r.opening (commits_of r.db r.entries)) image → RecoversRun r image
+FlushLeaves = (r : Run) (k : ℕ) (image : List ℕ) → durable r.db r.entries ≤ k → k ≤ made r.db r.entries
+    → RecoversEither (tables_at k r) (after_commits r.opening (commits_of r.db r.entries)) image → RecoversRun r image
 
 -- it survives with an entry that is no flush and makes no call
 abbrev pub EntryComes : {D : Type 0} → (D → ℕ → List ℕ → Type 0) → (D → ℕ) → Type 0

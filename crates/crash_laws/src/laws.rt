@@ -14,7 +14,8 @@ pub fn calls_pass<D: Disk>()
     ensures { CallsPass D.is_image D.calls }
 {}
 
-/// What recovers what was durable, or all that was made, recovers what is durable and no more than was made.
+/// What recovers what was on the disk, which is no less than was durable, or all that was made, recovers what is durable and no more than
+/// was made.
 #[tactic(auto, using(crate::proofs::Standing::flush_leaves))]
 pub fn flush_leaves()
     ensures { FlushLeaves }
