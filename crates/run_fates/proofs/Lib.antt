@@ -1,4 +1,5 @@
 pub mod Arrivals
+pub mod Ending
 pub mod Keeping
 pub mod Lasting
 pub mod Leading

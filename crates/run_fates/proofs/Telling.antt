@@ -31,7 +31,7 @@ use Rattle.run_fates.proofs.Leading.{Led, step_led, AllDurable, step_stays, step
 -- ---- the numbers of a database
 
 -- they are those of the entries
-record IsCounted (db : DbId) (w : World) : Type 0 where
+pub record IsCounted (db : DbId) (w : World) : Type 0 where
   pub made_is : (database_at db w).made ≡ made db w.entries
   pub durable_is : (database_at db w).durable ≡ durable db w.entries
 
@@ -53,7 +53,7 @@ still_counted db actor step w new l flushes stays k = record { made_is = all; du
     by false f =
         (stays f).durable db ∙ k.durable_is ∙ ap (made db) (sym (until-other w.entries l.leads.entry (ap is_flush l.step_is ∙ f))) ∙ ap (durable db) (sym l.leads.entries)
 
-record IsKept (w : World) : Type 0 where
+pub record IsKept (w : World) : Type 0 where
   pub counted : (db : DbId) → IsCounted db w
   pub noted : AreNoted w.entries w.sessions
   pub told : AreTold w.entries
@@ -191,7 +191,7 @@ read_kept : (w : World) (reading : ℕ) → IsKept w → IsKept (read_clock read
 unfolding read_clock
 read_kept w reading k = record { counted = λ db. read_counted w reading db (k.counted db); noted = k.noted; told = k.told }
 
-legal_kept : (start : World) → IsKept start → (readings : List ℕ) (w : World) → IsLegal start readings w → IsKept w
+pub legal_kept : (start : World) → IsKept start → (readings : List ℕ) (w : World) → IsLegal start readings w → IsKept w
 legal_kept start k readings w opens = k
 legal_kept start k readings w (reads before u reading legal) = read_kept u reading (legal_kept start k before u legal)
 legal_kept start k readings w (steps same u new actor step legal timely may) = step_kept u new actor step (legal_kept start k same u legal) may
@@ -201,7 +201,7 @@ unfolding opened
 opened_counted home away scripts Home = record { made_is = refl; durable_is = refl }
 opened_counted home away scripts Away = record { made_is = refl; durable_is = refl }
 
-opened_kept : (home away : Tables) (scripts : List SessionScript) → IsKept (opened home away scripts)
+pub opened_kept : (home away : Tables) (scripts : List SessionScript) → IsKept (opened home away scripts)
 unfolding opened
 opened_kept home away scripts = record {
   counted = opened_counted home away scripts;

@@ -1,5 +1,5 @@
 -- What is durable when a reply is told, when a slot is confirmed, and when it has arrived as a copy.
-use Rattle.std.specs.Prelude.{◌≡◌, ◌++◌, ◌∷◌, List, true, is_some}
+use Rattle.std.specs.Prelude.{◌≡◌, ◌≤◌, ◌++◌, ◌∷◌, List, true, is_some}
 use Rattle.aq_base.specs.declared.DbId.{DbId}
 use Rattle.queue_rows.specs.Rows.{find_message}
 use Rattle.queue_rows.specs.Propagating.{has_seen}
@@ -11,8 +11,9 @@ use Rattle.queue_rows.specs.declared.history.SlotRef.{SlotRef}
 use Rattle.queue_rows.specs.declared.history.Step.TheVariants.{Confirm}
 use Rattle.world_laws.specs.WorldLaws.{MayBegin}
 use Rattle.history_fates.specs.Arrivals.{other_db, is_copied, tables_at}
-use Rattle.history_fates.specs.Durability.{until_flush, ToldIsDurable}
+use Rattle.history_fates.specs.Durability.{until_flush, made, durable, ToldIsDurable}
 use Rattle.run_laws.specs.Legal.{IsLegalHistory}
+use Rattle.run_laws.specs.Serial.{IsSerial}
 
 -- the tables of a database as what was durable after these entries of a history left them
 abbrev pub durable_tables_at : DbId → History → List Entry → Tables
@@ -39,3 +40,8 @@ CopiedIsDurable h = (at : SlotRef) (front : List Entry) (e : Entry) (rest : List
 abbrev pub LegalCopiesDurable : Type 0
 LegalCopiesDurable = (home away : Tables) (scripts : List SessionScript) (h : History) → MayBegin home away scripts → IsLegalHistory home away scripts h
     → CopiedIsDurable h
+
+-- at the end of a serial history every commit is durable
+abbrev pub SerialIsDurable : Type 0
+SerialIsDurable = (home away : Tables) (scripts : List SessionScript) (h : History) → MayBegin home away scripts → IsSerial home away scripts h
+    → (db : DbId) → made db h.entries ≤ durable db h.entries

@@ -3,6 +3,7 @@ ghost use Rattle.run_fates.specs.DurableRun.{
   LegalConfirmsSeen,
   LegalCopiesDurable,
   LegalIsDurableAsTold,
+  SerialIsDurable,
 };
 ghost use Rattle.run_fates.specs.RunFates.{
   LegalCommitsFit,
@@ -51,4 +52,9 @@ pub fn legal_confirms_seen()
 /// When a slot arrives as a copy in a legal history, its message stands in what is durable at its own database.
 pub fn legal_copies_durable()
     ensures { LegalCopiesDurable }
+{}
+
+/// At the end of a serial history every commit is durable.
+pub fn serial_is_durable()
+    ensures { SerialIsDurable }
 {}
