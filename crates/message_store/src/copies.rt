@@ -77,12 +77,11 @@ fn copy_of(change: &Change) -> Result<Change, AllocError>
     }
 }
 
-/// Copies, which are the same changes.
+/// Copies, which are the same changes. A change is large, and mostly few come of a commit: so there is room for them and for no more.
 pub(crate) fn copies_of(changes: &List<Change>) -> Result<List<Change>, AllocError>
     ensures { IfOk result (λ copies. copies ≡ changes.now) }
 {
-    let mut copies = List::new(changes.allocator());
-    copies.reserve(changes.len())?;
+    let mut copies = List::from_vec(Vec::with_capacity(changes.allocator(), changes.len())?);
     for change in changes {
         copies.push(copy_of(change)?)?;
     }

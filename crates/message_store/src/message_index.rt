@@ -6,8 +6,9 @@ ghost use Rattle.message_store.specs.Stamped.{AreStamps};
 ghost use Rattle.message_store.specs.Stamps.{AreRising, TellsChanged, with_entry, without_entry};
 
 use crate::entry::{AtStamp, Entry};
+use crate::row_places::RowPlaces;
 use queue_rows::MsgRow;
-use row_tree::{Spare, Stock, Tree};
+use row_tree::{Spare, Tree};
 use std::alloc::{AllocError, Global};
 use std::collections::HashMap;
 use std::marker::Model;
@@ -27,8 +28,8 @@ enum Place {
 #[derive(Drop)]
 pub(crate) struct MessageIndex {
     entries: Tree<Entry>,
-    spares: Stock<Entry>,
-    rows: Stock<MsgRow>,
+    spares: RowPlaces<Entry>,
+    rows: RowPlaces<MsgRow>,
     places: HashMap<u64, Place>,
     next: u64,
     room: usize,
@@ -63,8 +64,8 @@ impl MessageIndex {
     {
         MessageIndex {
             entries: Tree::new(),
-            spares: Stock::new(alloc),
-            rows: Stock::new(alloc),
+            spares: RowPlaces::new(alloc),
+            rows: RowPlaces::new(alloc),
             places: HashMap::new(alloc),
             next: 0,
             room: 0,
@@ -172,8 +173,16 @@ impl MessageIndex {
         ensures stamped { AreStamps (length self.new.ids) self.new.stamps }
         ensures room { self.new.room ≡ self.old.room }
     {
-        let (entry, _spare) = self.entries.remove(at);
+        let (entry, spare) = self.entries.remove(at);
+        self.spares.keep(spare);
         forget(&mut self.places, entry.id);
+    }
+
+    /// Keeps the place of a message that is gone, for one to come. It takes no memory.
+    pub(crate) fn keep(&mut self, place: Spare<MsgRow>)
+        ensures { self.new ≡ self.old }
+    {
+        self.rows.keep(place);
     }
 }
 

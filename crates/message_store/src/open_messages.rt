@@ -19,7 +19,7 @@ use crate::ready_cache::ReadyCache;
 use crate::row_room::RowRoom;
 use payload_records::Name;
 use queue_rows::{MsgRow, SlotRow, SlotState};
-use row_tree::{Edit, Tree};
+use row_tree::{Edit, Spare, Tree};
 use std::marker::Model;
 
 /// Messages, with memory for so many more, and indexes of them: by their numbers, of their ready slots, and of what is due.
@@ -91,11 +91,13 @@ fn put_due(due: &mut DueCache, rows: &Tree<MsgRow>, at: usize)
     }
 }
 
-fn take_out(rows: &mut Tree<MsgRow>, at: usize)
+// The message at an index goes, and leaves its place.
+fn take_out(rows: &mut Tree<MsgRow>, at: usize) -> Spare<MsgRow>
     requires { at < length rows.old }
     ensures { rows.new ≡ remove rows.old at }
 {
-    let _removed = rows.remove(at);
+    let (_message, place) = rows.remove(at);
+    place
 }
 
 impl OpenMessages {
@@ -166,7 +168,8 @@ impl OpenMessages {
         take_rows(&mut self.caches.ready, &self.rows, at, stamp);
         take_due(&mut self.caches.due, &self.rows, &self.index, at);
         self.index.remove(at);
-        take_out(&mut self.rows, at);
+        let place = take_out(&mut self.rows, at);
+        self.index.keep(place);
     }
 
     // Whether the message at an index stands in that queue; None past the end.

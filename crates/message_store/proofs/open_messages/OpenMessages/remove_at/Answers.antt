@@ -15,8 +15,9 @@ invariant_of-self c =
     let within = subst (λ (n : ℕ). at < n) (sym (ap (λ (r : Rows MsgRow). length r.items) c.self.view_is)) c.requires in
     let ready = taken m.index.ids m.index.stamps m.rows at c.stamp_at-stamp.result m.caches.ready.slots c.take_rows.new.ready.slots
     c.self.invariant.0 c.self.invariant.1 within c.stamp_at-stamp.ensures c.take_rows.ensures c.self.invariant.2.ready in
-    let due = subst (λ (k : List KeepRow). IfDue (keeps_in k) (remove m.rows at) c.take_due.new.due.slots) (sym c.take_due.ensures.keeps) (c.take_due.ensures.rows c.self.invariant.2.due) in (
-      rw c.take_out.ensures (c.remove.ensures.ids ∙ ap (λ ids. remove ids at) c.self.invariant.0 ∙ ids_removed m.rows at),
+    let due = subst (λ (k : List KeepRow). IfDue (keeps_in k) (remove m.rows at) c.take_due.new.due.slots) (sym c.take_due.ensures.keeps) (c.take_due.ensures.rows c.self.invariant.2.due) in
+    rw c.keep.ensures (
+      rw c.take_out-place.ensures (c.remove.ensures.ids ∙ ap (λ ids. remove ids at) c.self.invariant.0 ∙ ids_removed m.rows at),
       c.remove.ensures.stamped,
-      record { ready = rw (c.take_out.ensures, c.remove.ensures.stamps) ready; due = rw c.take_out.ensures due },
+      record { ready = rw (c.take_out-place.ensures, c.remove.ensures.stamps) ready; due = rw c.take_out-place.ensures due },
     )
