@@ -11,7 +11,7 @@ use exception_queues::MessageTables;
 use message_groups::group_of;
 use payload_records::{Copied, List};
 use queue_rows::{Change, Mode, MsgId, MsgRow, Pending, Reply, Visibility};
-use sessions::{Effect, PositionMove, changes_of};
+use sessions::{Effect, PositionMove, changes_alone};
 use slot_marks::Mark;
 use std::alloc::{AllocError, Global};
 
@@ -102,14 +102,6 @@ fn taking_later(
     Ok(effect)
 }
 
-fn removal_alone(alloc: Global, id: u64, slot: u32) -> Result<List<Pending>, AllocError>
-    ensures { IfOk result (λ pending. pending ≡ Remove id slot ∷ []) }
-{
-    let mut pending = Vec::with_capacity(alloc, 1)?;
-    pending.push(Pending::Remove { id, slot })?;
-    Ok(List::from_vec(pending))
-}
-
 // What a removal commits that is a transaction of its own.
 fn removal<T: MessageTables>(
     store: &T,
@@ -122,8 +114,8 @@ fn removal<T: MessageTables>(
         ≡ commit_of (T.tables store.now) asked.now.request.now.moment (Remove id slot ∷ [])) }
 {
     let request = asked.request;
-    let pending = removal_alone(request.alloc, id, slot)?;
-    changes_of(store, &pending, request.moment)
+    let pending = Pending::Remove { id, slot };
+    changes_alone(request.alloc, store, &pending, request.moment)
 }
 
 fn taking_at_once<T: MessageTables>(

@@ -11,7 +11,7 @@ ghost use Rattle.enqueue_ops.specs.Asked.{MayAsk, IsTaken, MeansToEnqueueCells};
 ghost use Rattle.enqueue_ops.specs.Enqueued.{MeansToAdd, MeansToAddPayload, MeansToEnqueue};
 
 use crate::addition::Stamp;
-use crate::effect::{alone, refused};
+use crate::effect::refused;
 use crate::message::new_message;
 use crate::relative::{is_too_deep, relative_of};
 use aq_base::{DbId, NEXT_LIMIT};
@@ -21,7 +21,7 @@ use queue_rows::{
     Enqueue, LimitName, MsgId, MsgRow, Pending, QueueRow, Reply, TableRow, Tables, Visibility,
 };
 use recipients::{ChosenFault, chosen};
-use sessions::{Effect, SessionState, Verdict, changes_of};
+use sessions::{Effect, SessionState, Verdict, changes_alone};
 use std::alloc::{AllocError, Global};
 
 // ---- the tests that refuse it
@@ -82,8 +82,8 @@ fn add_message<T: MessageTables>(
             Ok(effect)
         }
         Visibility::Immediate => {
-            let pending = alone(alloc, Pending::Add(message))?;
-            let commit = changes_of(store, &pending, moment)?;
+            let pending = Pending::Add(message);
+            let commit = changes_alone(alloc, store, &pending, moment)?;
             Ok(Effect::plain(Verdict::Answer(reply), commit))
         }
     }

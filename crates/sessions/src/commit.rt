@@ -1,5 +1,5 @@
 // What a session commits.
-ghost use Rattle.std.specs.Prelude.{◌≡◌, ◌<◌, ◌≤◌, ◌^◌, [], All, IfOk, length};
+ghost use Rattle.std.specs.Prelude.{◌≡◌, ◌<◌, ◌≤◌, ◌^◌, [], ◌∷◌, All, IfOk, IfSome, length};
 ghost use Rattle.std.specs.List.{list_any};
 ghost use Rattle.queue_rows.specs.Commits.{commit_of};
 ghost use Rattle.sessions.specs.Numbers.{IsLowest, IsPendable};
@@ -12,7 +12,7 @@ use crate::running::lower_by;
 use exception_queues::{MessageTables, settle};
 use payload_records::{Copied, List};
 use queue_rows::{Change, Pending, QueueRow, Tables};
-use std::alloc::AllocError;
+use std::alloc::{AllocError, Global};
 
 fn is_addition(pending: &Pending) -> bool
     ensures { result ≡ is_addition pending.now }
@@ -79,6 +79,53 @@ fn changes_from(
     Ok(changes)
 }
 
+// That change, with room for what it may settle where it is of a removal, and for no more.
+fn alone(alloc: Global, change: Change) -> Result<List<Change>, AllocError>
+    ensures { IfOk result (λ changes. changes ≡ change ∷ []) }
+{
+    let room = match change {
+        Change::Done { .. } => 2,
+        _ => 1,
+    };
+    let mut changes = Vec::with_capacity(alloc, room)?;
+    changes.push(change)?;
+    Ok(List::from_vec(changes))
+}
+
+/// What one addition or removal becomes when it is committed at that moment, as a transaction of its own. It copies no queue.
+#[tactic(auto, using(crate::proofs::Course::lowest_within))]
+pub fn changes_alone<T: MessageTables>(
+    alloc: Global,
+    tables: &T,
+    pending: &Pending,
+    moment: u64,
+) -> Result<List<Change>, AllocError>
+    requires moment { moment ≤ 2 ^ 62 }
+    requires group { (T.tables tables.now).transaction < 2 ^ 62 }
+    requires lowest { All (IsLowest (2 ^ 62)) (T.tables tables.now).queues }
+    requires numbers { IsPendable pending.now }
+    ensures { IfOk result (λ it. it ≡ commit_of (T.tables tables.now) moment (pending.now ∷ [])) }
+{
+    let rows = tables.tables();
+    let stamp = Stamp {
+        group: rows.transaction,
+        moment,
+    };
+    let change = change_of(alloc, rows, &rows.queues, stamp, pending)?;
+    settle(tables, alone(alloc, change)?)
+}
+
+// The pending one, where it is the only one.
+fn only(pending: &List<Pending>) -> Option<&Pending>
+    ensures { IfSome result (λ one. pending.now ≡ one.now ∷ []) }
+{
+    let mut pending = pending.iter();
+    match (pending.next(), pending.next()) {
+        (Some(one), None) => Some(one),
+        _ => None,
+    }
+}
+
 /// What pending additions and removals become when they are committed at that moment, as one transaction.
 pub fn changes_of<T: MessageTables>(
     tables: &T,
@@ -92,6 +139,9 @@ pub fn changes_of<T: MessageTables>(
     requires numbers { All IsPendable pending.now }
     ensures { IfOk result (λ it. it ≡ commit_of (T.tables tables.now) moment pending.now) }
 {
+    if let Some(one) = only(pending) {
+        return changes_alone(pending.allocator(), tables, one, moment);
+    }
     let rows = tables.tables();
     let stamp = Stamp {
         group: rows.transaction,

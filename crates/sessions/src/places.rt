@@ -6,6 +6,7 @@ ghost use Rattle.sessions.specs.Numbers.{IsAbove, IsAddable};
 use payload_records::Copied;
 use place_keys::{Column, Place, SortList};
 use queue_rows::{MsgRow, QueueRow, TableRow, lane_of};
+use smallvec::SmallVec;
 use std::alloc::{AllocError, Global};
 
 fn column_value(priority: i64, enqueued: u64, committed: u64, column: Column) -> i64
@@ -26,12 +27,12 @@ fn column_values(
     priority: i64,
     enqueued: u64,
     committed: u64,
-) -> Result<Vec<i64>, AllocError>
+) -> Result<SmallVec<i64, 2>, AllocError>
     requires enqueued { enqueued ≤ 2 ^ 62 }
     requires committed { committed ≤ 2 ^ 62 }
     ensures { IfOk result (λ values. values.items ≡ map (column_value priority enqueued committed) sort.now) }
 {
-    let mut values = Vec::new(alloc);
+    let mut values = SmallVec::new(alloc);
     for column in sort.columns() {
         values.push(column_value(priority, enqueued, committed, *column))?;
     }
