@@ -6,7 +6,7 @@ ghost use Rattle.queue_rows.specs.Recipients.{facts_of};
 ghost use Rattle.enqueue_ops.specs.Asked.{HasTimes};
 
 use crate::addition::{Stamp, column_values};
-use payload_records::{Copied, List, Record};
+use payload_records::{Copied, List, Record, SmallList};
 use place_keys::{Place, before};
 use queue_rows::{Agent, Enqueue, MsgRow, SlotRow, SlotState, TableRow};
 use rule_conditions::Facts;
@@ -45,7 +45,7 @@ fn new_slots(
     alloc: Global,
     ask: &Enqueue,
     moment: u64,
-    agents: &List<Agent>,
+    agents: &SmallList<Agent>,
 ) -> Result<List<SlotRow>, AllocError>
     requires times { HasTimes ask.now }
     requires moment { moment ≤ 2 ^ 62 }
@@ -135,7 +135,7 @@ pub(crate) fn new_message(
     table: &TableRow,
     ask: &Enqueue,
     cells: &Record,
-    agents: &List<Agent>,
+    agents: &SmallList<Agent>,
     relative: Option<&MsgRow>,
     stamp: Stamp,
 ) -> Result<MsgRow, AllocError>

@@ -3,7 +3,7 @@ ghost use Rattle.std.specs.Prelude.{◌≡◌, [], ◌∷◌, IfOk, OnOk, map};
 ghost use Rattle.std.specs.List.{list_any};
 ghost use Rattle.queue_rows.specs.Recipients.{distinct_agents, is_same_agent, listed, nameless, subscribed, with_agent};
 
-use payload_records::{Copied, List};
+use payload_records::{Copied, List, SmallList};
 use queue_rows::{Agent, Recipient, SubRow};
 use std::alloc::{AllocError, Global};
 
@@ -13,16 +13,17 @@ fn is_same_agent(left: &Agent, right: &Agent) -> bool
     left.name == right.name && left.address == right.address
 }
 
-/// The recipient of a message in a queue with one consumer.
-pub(crate) fn nameless(alloc: Global) -> Result<List<Agent>, AllocError>
-    ensures { IfOk result (λ agents. agents ≡ nameless ∷ []) }
+/// The recipient of a message in a queue with one consumer. It takes no memory.
+pub(crate) fn nameless(alloc: Global) -> SmallList<Agent>
+    ensures { result ≡ nameless ∷ [] }
 {
-    let mut agents = List::new(alloc);
-    agents.push(Agent {
-        name: None,
-        address: None,
-    })?;
-    Ok(agents)
+    SmallList::of_one(
+        alloc,
+        Agent {
+            name: None,
+            address: None,
+        },
+    )
 }
 
 fn listed(recipient: &Recipient) -> Result<Agent, AllocError>
@@ -44,13 +45,13 @@ pub(crate) fn subscribed(sub: &SubRow) -> Result<Agent, AllocError>
     })
 }
 
-fn is_among(agents: &List<Agent>, agent: &Agent) -> bool
+fn is_among(agents: &SmallList<Agent>, agent: &Agent) -> bool
     ensures { result ≡ list_any (is_same_agent agent.now) agents.now }
 {
     agents.iter().any(|known| is_same_agent(agent, known))
 }
 
-fn add(agents: &mut List<Agent>, agent: Agent) -> Result<(), AllocError>
+fn add(agents: &mut SmallList<Agent>, agent: Agent) -> Result<(), AllocError>
     ensures { OnOk result (agents.new ≡ with_agent agents.old agent) }
 {
     if is_among(agents, &agent) {
@@ -63,10 +64,10 @@ fn add(agents: &mut List<Agent>, agent: Agent) -> Result<(), AllocError>
 pub(crate) fn distinct_agents(
     alloc: Global,
     recipients: &List<Recipient>,
-) -> Result<List<Agent>, AllocError>
+) -> Result<SmallList<Agent>, AllocError>
     ensures { IfOk result (λ agents. agents ≡ distinct_agents (map listed recipients.now)) }
 {
-    let mut agents = List::new(alloc);
+    let mut agents = SmallList::new(alloc);
     for recipient in recipients {
         add(&mut agents, listed(recipient)?)?;
     }

@@ -6,7 +6,7 @@ ghost use Rattle.recipients.specs.Refused.{IsRefused};
 use crate::agents::{distinct_agents, nameless, subscribed};
 use crate::fault::ChosenFault;
 use aq_base::RECIPIENT_LIMIT;
-use payload_records::{Copied, List, Name, Record, RecordType};
+use payload_records::{Copied, Name, Record, RecordType, SmallList};
 use queue_rows::{Agent, Enqueue, TableRow, Tables};
 use rule_checks::is_met;
 use rule_conditions::Facts;
@@ -31,11 +31,11 @@ fn wanting(
     queue: &Name,
     kind: &RecordType,
     facts: &Facts,
-) -> Result<List<Agent>, AllocError>
+) -> Result<SmallList<Agent>, AllocError>
     ensures { IfOk result
         (λ agents. agents ≡ map subscribed (wanting tables.now queue.now kind.now facts.now)) }
 {
-    let mut agents = List::new(alloc);
+    let mut agents = SmallList::new(alloc);
     for sub in &tables.subs {
         if sub.queue == *queue && is_met(sub.rule.as_ref(), facts, kind) {
             agents.push(subscribed(sub)?)?;
@@ -50,7 +50,7 @@ fn named_or_wanting(
     table: &TableRow,
     ask: &Enqueue,
     payload: &Record,
-) -> Result<List<Agent>, AllocError>
+) -> Result<SmallList<Agent>, AllocError>
     ensures { IfOk result (λ agents. agents ≡ named_or_wanting tables.now table.now ask.now payload.now) }
 {
     match &ask.recipients {
@@ -69,26 +69,27 @@ fn recipients(
     table: &TableRow,
     ask: &Enqueue,
     payload: &Record,
-) -> Result<List<Agent>, AllocError>
+) -> Result<SmallList<Agent>, AllocError>
     ensures { IfOk result (λ agents. agents ≡ recipients tables.now table.now ask.now payload.now) }
 {
     if table.multi {
         named_or_wanting(alloc, tables, table, ask, payload)
     } else {
-        nameless(alloc)
+        Ok(nameless(alloc))
     }
 }
 
 /// The recipients of a message that an enqueue puts into a queue of this table, with its payload as a record of the table's
 /// type: those that it names, each once, else the subscribers of its queue that want the message. In a table for one consumer
-/// it is one without a name. `NoRecipients` is told exactly where there are none, and `TooMany` where there are more than 64.
+/// it is one without a name, and takes no memory. `NoRecipients` is told exactly where there are none, and `TooMany` where there are
+/// more than 64.
 pub fn chosen(
     alloc: Global,
     tables: &Tables,
     table: &TableRow,
     ask: &Enqueue,
     payload: &Record,
-) -> Result<List<Agent>, ChosenFault>
+) -> Result<SmallList<Agent>, ChosenFault>
     ensures ok { IfOk result (λ agents. agents ≡ recipients tables.now table.now ask.now payload.now) }
     ensures some { IfOk result (λ agents. 0 < length agents) }
     ensures limit { IfOk result (λ agents. length agents ≤ 64) }
