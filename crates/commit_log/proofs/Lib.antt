@@ -1,0 +1,3 @@
+pub mod Loggable
+pub mod Logging
+pub mod Mounting

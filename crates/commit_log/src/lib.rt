@@ -1,0 +1,13 @@
+//! The journal of a database's commits: what a crash leaves of it is recovered to a first part of them.
+#![tactic(auto)]
+
+mod anew;
+mod fault;
+mod laws;
+mod log;
+mod mount;
+mod read;
+
+pub use fault::LogFault;
+pub use laws::{log_recovers, loggable_so_far};
+pub use log::CommitLog;
