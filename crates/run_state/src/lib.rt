@@ -1,7 +1,9 @@
 //! The state of a run: two databases, the sessions with their locks, and the history; and each step of it.
 #![tactic(auto)]
 
+mod beginning;
 mod call_effect;
+mod copies;
 mod entering;
 mod holdings;
 mod locks;

@@ -101,6 +101,24 @@ impl RunDatabase {
         }
     }
 
+    /// The database of a store, in which nothing was committed in this run yet. Its tables are given once more, as those with which the
+    /// run begins.
+    pub fn resume(opening: Tables, store: PreparedStore) -> RunDatabase
+        requires { opening ≡ store.tables }
+        ensures { result ≡ opened_database store.tables }
+    {
+        let durable_seen = opening.seen.len() as u64;
+        let next = opening.next;
+        RunDatabase {
+            opening,
+            store,
+            made: 0,
+            durable: 0,
+            durable_seen,
+            next,
+        }
+    }
+
     /// Its tables, by which messages are chosen and due work is found.
     pub fn store(&self) -> &PreparedStore
         ensures { result.now.tables ≡ self.now.tables }

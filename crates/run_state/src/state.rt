@@ -11,10 +11,12 @@ ghost use Rattle.run_state.specs.Entries.{BeginsAs, HasNoCalls};
 ghost use Rattle.run_state.specs.Sendings.{transit_of};
 ghost use Rattle.run_state.specs.Sessions.{session_of, unmarked};
 
+use crate::beginning::Beginning;
 use crate::run_database::RunDatabase;
 use crate::session_registry::SessionRegistry;
 use crate::transit::Transit;
 use aq_base::{DbId, MOMENT_LIMIT};
+use message_store::PreparedStore;
 use payload_records::List;
 use queue_rows::{Entry, History, SessionScript, Statement};
 use row_locks::RowLocks;
@@ -26,7 +28,10 @@ use std::marker::Model;
 const ENTRIES_A_STATEMENT: usize = 3;
 
 // The history is the longest list of a run, and the scripts tell how long it mostly grows: it has that room from the start.
-fn room_for_entries(alloc: Global, scripts: &List<SessionScript>) -> Result<List<Entry>, AllocError>
+pub(crate) fn room_for_entries(
+    alloc: Global,
+    scripts: &List<SessionScript>,
+) -> Result<List<Entry>, AllocError>
     ensures { IfOk result (λ entries. entries ≡ []) }
 {
     let mut count: usize = 0;
@@ -105,6 +110,22 @@ impl RunState {
             readings: 0,
             entries,
         })
+    }
+
+    /// The state in which the sessions of these scripts have called nothing yet, over the databases of these tables. The run begins at the
+    /// moment of the latest commit of both.
+    pub fn resume(
+        alloc: Global,
+        home: PreparedStore,
+        away: PreparedStore,
+        scripts: List<SessionScript>,
+    ) -> Result<RunState, AllocError>
+        ensures { IfOk result (λ w. w ≡ opened home.tables away.tables scripts) }
+    {
+        match Beginning::new(alloc, home.tables(), away.tables(), scripts) {
+            Ok(beginning) => Ok(beginning.over(home, away)),
+            Err(AllocError) => Err(AllocError),
+        }
     }
 
     /// Where memory comes from.

@@ -1,0 +1,30 @@
+use Rattle.std.proofs.Common.{◌≡◌, [], Some, false, sym, ap, ◌∙◌, subst, rules}
+use Rattle.std.specs.Prelude.{option_copied, option_map, is_some, slice_get}
+use Rattle.run_state.specs.Sessions.{session_of, unmarked}
+use Rattle.durable_state.specs.Going.{Goes}
+use Rattle.durable_state.specs.Held.{Held}
+use Rattle.durable_state.specs.Queueing.{queued_of}
+use Rattle.durable_state.proofs.Stepping.{follows, held_of}
+use Rattle.durable_state.proofs.Worlds.{parked_adds}
+use Rattle.durable_state.proofs.durable_state.DurableState.park.Goals as goal
+
+pub invariant_of-self-2 : goal.invariant_of-self-2
+invariant_of-self-2 g c =
+    let is : option_map session_of (Some c.in-Some.session.now) ≡ option_map unmarked (slice_get c.self.inside.state.sessions c.args.at) = sym (ap (λ o. option_map session_of (option_copied o)) c.in-Some.is) ∙ c.session.ensures in
+    let none : is_some c.in-Some.session.now.parked ≡ false = search rules in
+    let w = c.self.inside.state in
+    let v = c.park-made.new.self in
+    (follows g.D.Disk.seen g.D.Disk.is_image g.D.Disk.calls g.D.Disk.faults c.park-made.result c.moment.result [] [] c.in_ok-queued.queued w v c.self.inside.logs c.note.new.self c.settle.new.self
+    c.self.invariant c.moment.ensures c.in_ok-queued.ensures.same c.in_ok-queued.ensures.ok c.settle.ensures.ok c.settle.ensures.err
+    (parked_adds c.park-made.result c.args.at c.args.since w v c.in-Some.session.now is none c.park-made.ensures.ok) c.park-made.ensures.err).few
+
+pub returns-clause-disks : goal.returns-clause-disks
+returns-clause-disks g c =
+    let is : option_map session_of (Some c.in-Some.session.now) ≡ option_map unmarked (slice_get c.self.inside.state.sessions c.args.at) = sym (ap (λ o. option_map session_of (option_copied o)) c.in-Some.is) ∙ c.session.ensures in
+    let none : is_some c.in-Some.session.now.parked ≡ false = search rules in
+    let w = c.self.inside.state in
+    let v = c.park-made.new.self in
+    subst (λ (o : Held _). Goes g.D.Disk.seen g.D.Disk.is_image g.D.Disk.calls g.D.Disk.faults o (held_of v c.settle.new.self)) c.self.view_is
+    (follows g.D.Disk.seen g.D.Disk.is_image g.D.Disk.calls g.D.Disk.faults c.park-made.result c.moment.result [] [] c.in_ok-queued.queued w v c.self.inside.logs c.note.new.self c.settle.new.self
+    c.self.invariant c.moment.ensures c.in_ok-queued.ensures.same c.in_ok-queued.ensures.ok c.settle.ensures.ok c.settle.ensures.err
+    (parked_adds c.park-made.result c.args.at c.args.since w v c.in-Some.session.now is none c.park-made.ensures.ok) c.park-made.ensures.err).goes

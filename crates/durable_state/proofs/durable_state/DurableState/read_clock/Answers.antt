@@ -1,0 +1,21 @@
+use Rattle.std.proofs.Common.{ap, sym, ◌∙◌, length, subst}
+use Rattle.run_laws.specs.World.{World}
+use Rattle.durable_state.specs.Going.{Goes}
+use Rattle.durable_state.specs.Held.{Held}
+use Rattle.durable_state.proofs.Stepping.{held_of, still_goes}
+use Rattle.durable_state.proofs.Worlds.{entries_read, home_read, away_read}
+use Rattle.durable_state.proofs.durable_state.DurableState.read_clock.Goals as goal
+
+pub invariant_of-self : goal.invariant_of-self
+invariant_of-self g c =
+    c.self.invariant ∙ sym (ap (λ (w : World). length w.entries) c.read_clock.ensures ∙ ap length (entries_read c.args.reading c.self.inside.state))
+
+pub returns-clause-disks : goal.returns-clause-disks
+returns-clause-disks g c =
+    let w = c.self.inside.state in
+    let v = c.read_clock.new.self in
+    subst (λ (o : Held _). Goes g.D.Disk.seen g.D.Disk.is_image g.D.Disk.calls g.D.Disk.faults o (held_of v c.self.inside.logs)) c.self.view_is
+    (still_goes g.D.Disk.seen g.D.Disk.is_image g.D.Disk.calls g.D.Disk.faults w v c.self.inside.logs
+    (ap (λ (u : World). u.entries) c.read_clock.ensures ∙ entries_read c.args.reading w)
+    (ap (λ (u : World). u.home.opening) c.read_clock.ensures ∙ home_read c.args.reading w)
+    (ap (λ (u : World). u.away.opening) c.read_clock.ensures ∙ away_read c.args.reading w))

@@ -1,0 +1,15 @@
+-- How a run goes on.
+use Rattle.std.specs.Prelude.{ℕ, List, Option}
+use Rattle.durable_state.specs.Held.{Held}
+use Rattle.durable_state.specs.Survival.{Begun, Survives}
+
+-- whatever disks it began on, the run survives after it if it did before
+pub record Goes {D : Type 0} (seen : D → Option (List ℕ)) (images : D → ℕ → List ℕ → Type 0) (calls faults : D → ℕ) (old new : Held D) : Type 0 where
+  pub on : (b : Begun D) → Survives seen images calls faults b old → Survives seen images calls faults b new
+
+module _ {D : Type 0} (seen : D → Option (List ℕ)) (images : D → ℕ → List ℕ → Type 0) (calls faults : D → ℕ) where
+  pub goes_same : (v : Held D) → Goes seen images calls faults v v
+  goes_same v = record { on = λ b s. s }
+
+  pub goes_on : (a b c : Held D) → Goes seen images calls faults a b → Goes seen images calls faults b c → Goes seen images calls faults a c
+  goes_on a b c first second = record { on = λ begun s. second.on begun (first.on begun s) }

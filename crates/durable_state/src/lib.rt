@@ -1,0 +1,14 @@
+//! The state of a run over its disks: each step of the run once more, with the logs of both databases.
+#![tactic(auto)]
+
+mod broken;
+mod counting;
+mod disk_calls;
+mod durable_state;
+mod flushing;
+mod log_steps;
+mod run_logs;
+mod steps;
+
+pub use broken::Broken;
+pub use durable_state::{DurableState, Finished, Unmounted};
