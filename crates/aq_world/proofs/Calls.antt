@@ -1,7 +1,7 @@
 -- Who calls next, and that it can.
-use Rattle.std.proofs.Common.{◌≡◌, ◌≢◌, ℕ, ◌+◌, ◌<◌, ◌≤◌, ◌^◌, inl, inr, List, [], ◌++◌, ◌∷◌, Option, Some, None, true, false, refl, sym, ap, subst, ◌∙◌, arith, length, length-append, ◌&&◌}
+use Rattle.std.proofs.Common.{◌≡◌, ℕ, ◌<◌, ◌≤◌, ◌^◌, inl, inr, List, [], ◌++◌, ◌∷◌, Option, Some, None, true, false, refl, sym, ap, subst, ◌∙◌, arith, length, length-append, ◌&&◌}
 use Rattle.std.specs.Prelude.{IfSome, map, nat_le, option_map, slice_get}
-use Rattle.std.specs.List.{AllZip, list_all, sum_by}
+use Rattle.std.specs.List.{AllZip, list_all}
 use Rattle.std.specs.Str.{bytes_eq}
 use Rattle.std.proofs.lemmas.Bool.{and_parts, leb-true}
 use Rattle.std.proofs.lemmas.List.Sums.{sum-map, get_or-le-sum_by}
@@ -10,11 +10,10 @@ use Rattle.aq_base.specs.declared.limits.TheConstants.{SESSION_LIMIT, STATEMENT_
 use Rattle.slot_marks.specs.Marks.{SessionMarks, marks_of, has_slot, has_any_group, IsFreeFor}
 use Rattle.slot_marks.specs.declared.mark.Mark.{Mark}
 use Rattle.queue_rows.specs.Distinct.{are_distinct}
-use Rattle.queue_rows.specs.Meaning.{answers}
 use Rattle.queue_rows.specs.Session.{Session}
 use Rattle.queue_rows.specs.Statements.{statement_of}
 use Rattle.queue_rows.specs.Turns.{ids_taken}
-use Rattle.queue_rows.specs.Within.{are_within, is_within, is_script_within, statement_count}
+use Rattle.queue_rows.specs.Within.{are_within, is_script_within, statement_count}
 use Rattle.queue_rows.specs.declared.history.SessionScript.{SessionScript}
 use Rattle.queue_rows.specs.declared.reply.Reply.{Reply}
 use Rattle.queue_rows.specs.declared.reply.Reply.TheVariants as replies
@@ -27,18 +26,18 @@ use Rattle.world_laws.proofs.Worlds.{asked}
 use Rattle.run_laws.specs.Statements.{meaning, next_statement, slot_sent}
 use Rattle.run_laws.specs.World.{World, database_at}
 use Rattle.run_laws.proofs.Was.{past}
-use Rattle.run_state.specs.CallEffects.{IsCallable, IsFreeOf, IsLater, call_meant, done_by, mark_of, pend_of, pending_after}
+use Rattle.run_state.specs.CallEffects.{IsCallable, IsLater, call_meant, done_by, mark_of, pending_after}
 use Rattle.run_state.specs.Sessions.{session_of, unmarked, IsFreeIn}
 use Rattle.run_state.specs.declared.call_effect.CallEffect.{CallEffect}
 use Rattle.run_state.specs.declared.call_effect.Holdings.{Holdings}
 use Rattle.run_state.specs.declared.call_effect.Holdings.TheVariants.{Kept, Cleared}
 use Rattle.aq_world.specs.Calling.{IsCallerIn, IsFreeDoing, MayCall, doing_meant, mark_in}
 use Rattle.aq_world.specs.Sound.{IsSound}
-use Rattle.aq_world.specs.Stepping.{CanDo, IsNext, Means}
+use Rattle.aq_world.specs.Stepping.{CanDo, Means}
 use Rattle.aq_world.specs.declared.respond.Caller.{Caller}
 use Rattle.aq_world.specs.declared.respond.Doing.{Doing}
 use Rattle.aq_world.specs.declared.respond.Doing.TheVariants.{Call, Wait}
-use Rattle.aq_world.proofs.Pends.{Pends, PendsOne, answered_so}
+use Rattle.aq_world.proofs.Pends.{Pends, answered_so}
 
 -- ---- the session that is found
 

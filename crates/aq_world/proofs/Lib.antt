@@ -1,5 +1,7 @@
 pub mod Calls
 pub mod Doings
+pub mod Goings
+pub mod Mounting
 pub mod Numbers
 pub mod OfRun
 pub mod OwnTurns

@@ -1,16 +1,14 @@
 -- A session's own turn is what its step makes of the world.
-use Rattle.std.proofs.Common.{◌≡◌, ℕ, Option, Some, None, refl, sym, ap, subst, ◌∙◌}
+use Rattle.std.proofs.Common.{◌≡◌, ℕ, Option, Some, None, sym, ap, subst, ◌∙◌}
 use Rattle.std.specs.Prelude.{IfSome, option_map}
 use Rattle.queue_rows.specs.Session.{Session}
-use Rattle.queue_rows.specs.Meaning.{Meaning}
 use Rattle.run_laws.specs.Statements.{meaning, next_statement}
 use Rattle.run_laws.specs.Turns.{ended, own_turn, parked, turned_by}
 use Rattle.run_laws.specs.World.{World}
-use Rattle.run_state.specs.CallEffects.{IsCallable, called_with}
+use Rattle.run_state.specs.CallEffects.{called_with}
 use Rattle.run_state.specs.declared.call_effect.CallEffect.{CallEffect}
-use Rattle.aq_world.specs.Stepping.{IsNext, Means}
+use Rattle.aq_world.specs.Stepping.{Means}
 use Rattle.aq_world.specs.Turning.{end_by, next_meaning}
-use Rattle.aq_world.specs.declared.respond.Doing.{Doing}
 use Rattle.aq_world.specs.declared.respond.Doing.TheVariants.{Call, Wait}
 use Rattle.aq_world.specs.declared.turn_end.TurnEnd.TheVariants as ends
 

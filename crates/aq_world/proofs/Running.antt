@@ -1,5 +1,5 @@
 -- Legal steps lead to the world behind each turn, also behind one that is broken off.
-use Rattle.std.proofs.Common.{◌≡◌, ◌<◌, ◌≤◌, inl, inr, ℕ, List, [], Bool, true, false, Option, Some, None, Result, All, refl, sym, ap, subst, ◌∙◌, arith, length}
+use Rattle.std.proofs.Common.{◌≡◌, ◌<◌, ◌≤◌, inl, inr, ℕ, List, [], Bool, true, false, Option, Some, None, Result, refl, sym, ap, subst, ◌∙◌, arith, length}
 use Rattle.std.specs.Prelude.{◌⊎◌, Ok, Err, OnOk, OnErr, IfOk, MatchResult, ◌==◌, ◌||◌, nat_lt, slice_get, is_some, not, if◌then◌else◌}
 use Rattle.std.proofs.lemmas.Bool.{lt-ltb, or_left}
 use Rattle.std.proofs.lemmas.List.Elements.{All-nil}
@@ -9,8 +9,6 @@ use Rattle.queue_rows.specs.Turns.{step_readings}
 use Rattle.queue_rows.specs.declared.history.SessionScript.{SessionScript}
 use Rattle.queue_rows.specs.declared.tables.Tables.{Tables}
 use Rattle.sessions.specs.Numbers.{IsPendable}
-use Rattle.queue_rows.specs.Tables.{empty_tables}
-use Rattle.world_laws.specs.ValidWorld.{AreScripts}
 use Rattle.world_laws.specs.WorldLaws.{MayBegin}
 use Rattle.run_laws.specs.World.{World, opened, read_clock}
 use Rattle.run_laws.specs.Sending.{next_sending}
@@ -25,12 +23,16 @@ use Rattle.run_turns.proofs.Calling.{entries-opened, session-opened}
 use Rattle.run_turns.proofs.Legally.{IsOnClock, valid_now, session_turn_on, timer_on, propagator_on, closing_on, read_on, begun_on, flushed_on, begun_flushed_on, drains_on, drains_caught_on, drains_flushed_on}
 use Rattle.run_turns.proofs.Sounding.{opened_sound}
 use Rattle.run_state.specs.Entries.{IsUntold}
+use Rattle.durable_state.specs.Held.{Held, HasFailed}
+use Rattle.durable_state.specs.declared.broken.Broken.{Broken}
+use Rattle.durable_state.specs.declared.broken.Broken.TheVariants as reasons
+use Rattle.aq_world.specs.Going.{GoesAs}
 use Rattle.aq_world.specs.Sound.{IsSound, IsSoundSession, IsRunning, start_of}
-use Rattle.aq_world.specs.Turning.{IsActor, IsUndone, IsBrokenOff, IsPartOfStep, IsPartDrained, IsDrainable, IsOfRun, IsWhole, broken_if, reads_clock, is_session, next_turned, next_meaning, end_by, session_end, background_end, timer_end, propagator_end, turn_end}
+use Rattle.aq_world.specs.Turning.{IsActor, IsUndone, IsBrokenOff, IsPartOfStep, IsPartDrained, IsDrainable, IsOfRun, IsWhole, broken_end, broken_if, reads_clock, is_session, next_turned, next_meaning, end_by, session_end, background_end, timer_end, propagator_end, turn_end}
 use Rattle.aq_world.specs.declared.turn_end.TurnEnd.{TurnEnd}
 use Rattle.aq_world.specs.declared.turn_end.TurnEnd.TheVariants as ends
 use Rattle.aq_world.proofs.OfRun.{of_run-along, of_run-caught_up, of_run-drained, of_run-flushed, of_run-read, of_run-same, of_run-trans}
-use Rattle.aq_world.proofs.Soundness.{may_begin, sound_opened, sound_read, step_sound}
+use Rattle.aq_world.proofs.Soundness.{sound_opened, sound_read, step_sound}
 use Rattle.aq_world.proofs.Turning.{timer_actor, sender_actor}
 
 -- each legal world is sound
@@ -181,30 +183,71 @@ turn_whole reading actor w end e = subst IsWhole (sym e) (whole_if (is_session a
 
 -- ---- how a turn ends that may be broken off
 
-pub turned_world : {E P : Type 0} (turn : Result TurnEnd E) (t : TurnEnd) → MatchResult turn (λ end. t ≡ end) (λ _. t ≡ ends.Memory) → OnOk turn P → IsWhole t → P
+-- the turn ended as it was, or was broken off so
+abbrev EndsAs : Result TurnEnd Broken → TurnEnd → Type 0
+EndsAs turn t = MatchResult turn (λ end. t ≡ end) (λ why. t ≡ broken_end why)
+
+-- a turn that is broken off is not whole
+not_whole : (why : Broken) → IsWhole (broken_end why) → ⊥
+not_whole reasons.Memory whole = whole
+not_whole reasons.Halted whole = whole
+
+broken_known : (why : Broken) (t : TurnEnd) → t ≡ broken_end why → (t ≡ ends.Memory) ⊎ (t ≡ ends.Halted)
+broken_known reasons.Memory t m = inl m
+broken_known reasons.Halted t m = inr m
+
+pub turned_world : {P : Type 0} (turn : Result TurnEnd Broken) (t : TurnEnd) → EndsAs turn t → OnOk turn P → IsWhole t → P
 turned_world (Ok end) t m ok whole = ok
-turned_world (Err e) t m ok whole = absurd (subst IsWhole m whole)
+turned_world (Err e) t m ok whole = absurd (not_whole e (subst IsWhole m whole))
 
-pub turned_end : {E : Type 0} (turn : Result TurnEnd E) (t end : TurnEnd) → MatchResult turn (λ end. t ≡ end) (λ _. t ≡ ends.Memory) → IfOk turn (λ x. x ≡ end) → IsWhole t → t ≡ end
+pub turned_end : (turn : Result TurnEnd Broken) (t end : TurnEnd) → EndsAs turn t → IfOk turn (λ x. x ≡ end) → IsWhole t → t ≡ end
 turned_end (Ok x) t end m e whole = m ∙ e
-turned_end (Err x) t end m e whole = absurd (subst IsWhole m whole)
+turned_end (Err x) t end m e whole = absurd (not_whole x (subst IsWhole m whole))
 
-pub turned_broken : {E P : Type 0} (turn : Result TurnEnd E) (t : TurnEnd) (reading actor : ℕ) (w : World) → MatchResult turn (λ end. t ≡ end) (λ _. t ≡ ends.Memory) → IfOk turn (λ x. x ≡ turn_end reading actor w) → OnErr turn P → (IsWhole t → ⊥)
-    → (t ≡ ends.Memory) × P
+pub turned_broken : {P : Type 0} (turn : Result TurnEnd Broken) (t : TurnEnd) (reading actor : ℕ) (w : World) → EndsAs turn t → IfOk turn (λ x. x ≡ turn_end reading actor w) → OnErr turn P → (IsWhole t → ⊥)
+    → ((t ≡ ends.Memory) ⊎ (t ≡ ends.Halted)) × P
 turned_broken (Ok x) t reading actor w m e p broken = absurd (broken (subst IsWhole (sym m) (turn_whole reading actor w x e)))
-turned_broken (Err x) t reading actor w m e p broken = (m, p)
+turned_broken (Err x) t reading actor w m e p broken = (broken_known x t m, p)
 
-pub closed_known : {E : Type 0} (turn : Result TurnEnd E) (t : TurnEnd) → MatchResult turn (λ end. t ≡ end) (λ _. t ≡ ends.Memory) → IfOk turn (λ x. x ≡ ends.Done) → (t ≡ ends.Done) ⊎ (t ≡ ends.Memory)
+pub closed_known : (turn : Result TurnEnd Broken) (t : TurnEnd) → EndsAs turn t → IfOk turn (λ x. x ≡ ends.Done) → (t ≡ ends.Done) ⊎ ((t ≡ ends.Memory) ⊎ (t ≡ ends.Halted))
 closed_known (Ok x) t m e = inl (m ∙ e)
-closed_known (Err x) t m e = inr m
+closed_known (Err x) t m e = inr (broken_known x t m)
 
-pub closed_world : {E P : Type 0} (turn : Result TurnEnd E) (t : TurnEnd) → MatchResult turn (λ end. t ≡ end) (λ _. t ≡ ends.Memory) → OnOk turn P → t ≡ ends.Done → P
-closed_world (Ok x) t m ok done = ok
-closed_world (Err x) t m ok done = absurd (let no : ends.Memory ≡ ends.Done = sym m ∙ done in cc)
+pub closed_world : {P : Type 0} (turn : Result TurnEnd Broken) (t : TurnEnd) → EndsAs turn t → OnOk turn P → t ≡ ends.Done → P
+closed_world turn t m ok done = turned_world turn t m ok (subst IsWhole (sym done) tt)
 
-pub closed_broken : {E P : Type 0} (turn : Result TurnEnd E) (t : TurnEnd) → MatchResult turn (λ end. t ≡ end) (λ _. t ≡ ends.Memory) → IfOk turn (λ x. x ≡ ends.Done) → OnErr turn P → t ≡ ends.Memory → P
-closed_broken (Ok x) t m e p memory = absurd (let no : ends.Done ≡ ends.Memory = sym (m ∙ e) ∙ memory in cc)
-closed_broken (Err x) t m e p memory = p
+pub closed_broken : {P : Type 0} (turn : Result TurnEnd Broken) (t : TurnEnd) → EndsAs turn t → IfOk turn (λ x. x ≡ ends.Done) → OnErr turn P → (IsWhole t → ⊥) → P
+closed_broken (Ok x) t m e p broken = absurd (broken (subst IsWhole (sym (m ∙ e)) tt))
+closed_broken (Err x) t m e p broken = p
+
+-- ---- what a turn leaves of the disks
+
+-- a turn tells that it was halted just where it was
+halted_so : (turn : Result TurnEnd Broken) (t : TurnEnd) → EndsAs turn t → t ≡ ends.Halted → IfOk turn IsWhole → turn ≡ Err reasons.Halted
+halted_so (Ok x) t m e whole = absurd (subst IsWhole (sym m ∙ e) whole)
+halted_so (Err reasons.Halted) t m e whole = refl
+halted_so (Err reasons.Memory) t m e whole = absurd (let other : ends.Memory ≡ ends.Halted = sym m ∙ e in cc)
+
+halted_back : (turn : Result TurnEnd Broken) (t : TurnEnd) → EndsAs turn t → turn ≡ Err reasons.Halted → t ≡ ends.Halted
+halted_back (Ok x) t m e = absurd (cc)
+halted_back (Err reasons.Halted) t m e = m
+halted_back (Err reasons.Memory) t m e = absurd (cc)
+
+module _ {D : Type 0} {seen : D → Option (List ℕ)} {images : D → ℕ → List ℕ → Type 0} {calls faults : D → ℕ} where
+  pub turn_halted : (turn : Result TurnEnd Broken) (t : TurnEnd) (old new : Held D) → EndsAs turn t → IfOk turn IsWhole → GoesAs seen images calls faults turn old new → t ≡ ends.Halted → HasFailed new
+  turn_halted turn t old new m whole step e = step.halted (halted_so turn t m e whole)
+
+  pub turn_fine : (turn : Result TurnEnd Broken) (t : TurnEnd) (old new : Held D) → EndsAs turn t → GoesAs seen images calls faults turn old new → (t ≡ ends.Halted → ⊥) → HasFailed new → HasFailed old
+  turn_fine turn t old new m step other failed = step.fine (λ e. other (halted_back turn t m e)) failed
+
+-- a turn that ended is whole
+pub if_turned : (turn : Result TurnEnd Broken) (reading actor : ℕ) (w : World) → IfOk turn (λ x. x ≡ turn_end reading actor w) → IfOk turn IsWhole
+if_turned (Ok x) reading actor w e = turn_whole reading actor w x e
+if_turned (Err x) reading actor w e = _
+
+pub if_closed : (turn : Result TurnEnd Broken) → IfOk turn (λ x. x ≡ ends.Done) → IfOk turn IsWhole
+if_closed (Ok x) e = subst IsWhole (sym e) tt
+if_closed (Err x) e = _
 
 -- ---- turns, by their actors
 
@@ -243,6 +286,24 @@ is_propagator w actor (inr (inr e)) few h = e
 
 -- ---- the beginning
 
-pub opened_running : (scripts : List SessionScript) → AreScripts scripts → IsRunning (opened empty_tables empty_tables scripts)
+pub opened_running : (home away : Tables) (scripts : List SessionScript) → MayBegin home away scripts → IsRunning (opened home away scripts)
 unfolding opened
-opened_running scripts s = record { begins = may_begin scripts s.within s.ordered; opening = refl; legal = opens; sound = sound_opened scripts s.within s.ordered }
+opened_running home away scripts m = record { begins = m; opening = refl; legal = opens; sound = sound_opened home away scripts m }
+
+home-opened : (home away : Tables) (scripts : List SessionScript) → (opened home away scripts).home.opening ≡ home
+unfolding opened
+home-opened home away scripts = refl
+
+away-opened : (home away : Tables) (scripts : List SessionScript) → (opened home away scripts).away.opening ≡ away
+unfolding opened
+away-opened home away scripts = refl
+
+pub began_home : (home away : Tables) (scripts : List SessionScript) (w : World) → w ≡ opened home away scripts → w.home.opening ≡ home
+began_home home away scripts w e = ap (λ (v : World). v.home.opening) e ∙ home-opened home away scripts
+
+pub began_away : (home away : Tables) (scripts : List SessionScript) (w : World) → w ≡ opened home away scripts → w.away.opening ≡ away
+began_away home away scripts w e = ap (λ (v : World). v.away.opening) e ∙ away-opened home away scripts
+
+pub began_opened : (home away : Tables) (scripts : List SessionScript) (w : World) → w ≡ opened home away scripts → w ≡ opened w.home.opening w.away.opening scripts
+began_opened home away scripts w e =
+    e ∙ ap (λ t. opened t away scripts) (sym (began_home home away scripts w e)) ∙ ap (λ t. opened w.home.opening t scripts) (sym (began_away home away scripts w e))

@@ -1,5 +1,5 @@
 -- The step of propagation that comes next, and what must be durable before it.
-use Rattle.std.proofs.Common.{◌≡◌, ◌≤◌, ◌<◌, ◌+◌, ◌^◌, inl, inr, ℕ, List, [], Bool, true, false, Option, Some, None, refl, sym, ap, subst, ◌∙◌, option_map, arith}
+use Rattle.std.proofs.Common.{◌≡◌, ◌≤◌, inl, inr, ℕ, List, [], Bool, true, false, Option, Some, None, refl, sym, ap, subst, ◌∙◌, option_map, arith}
 use Rattle.std.specs.Prelude.{find, option_and_then, is_some, IfSome, IsSome, if◌then◌else◌}
 use Rattle.std.proofs.lemmas.Option.{none-some}
 use Rattle.aq_base.specs.declared.DbId.{DbId}
@@ -17,11 +17,10 @@ use Rattle.queue_rows.specs.declared.rows.TableRow.{TableRow}
 use Rattle.queue_rows.specs.declared.tables.Tables.{Tables}
 use Rattle.history_fates.specs.Arrivals.{other_db}
 use Rattle.propagation.specs.Outcomes as outcomes
-use Rattle.run_laws.specs.World.{World, Stage, Transit, on_its_way, came, database_at, stepped}
+use Rattle.run_laws.specs.World.{World, Stage, on_its_way, came, database_at, stepped}
 use Rattle.run_laws.specs.Sending.{Sending, offers, arrives, confirms, dispatch_at, picked, offer_of, arrival_of, confirmation_of, sending_on, next_sending, may_follow, sent}
 use Rattle.run_laws.specs.Turns.{is_durable, all_durable, flushed, propagated, propagated_by}
 use Rattle.run_laws.specs.ValidRun.{IsValidWorld}
-use Rattle.run_laws.proofs.Worlds.{sends_on}
 use Rattle.run_laws.proofs.Working.{sent_dispatched}
 use Rattle.run_turns.proofs.Growing.{grows_propagated, grows_sent}
 use Rattle.run_turns.proofs.Resting.{propagated-none}

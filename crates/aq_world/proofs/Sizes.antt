@@ -1,11 +1,11 @@
 -- What valid worlds say of the numbers that due work and propagation need.
-use Rattle.std.proofs.Common.{◌≡◌, ◌≤◌, ◌<◌, ◌+◌, ◌^◌, ℕ, List, [], ◌∷◌, Bool, true, false, Option, Some, None, All, sym, ap, subst, ◌∙◌, option_map, arith}
+use Rattle.std.proofs.Common.{◌≡◌, ◌≤◌, ◌^◌, ℕ, List, [], ◌∷◌, Bool, true, Option, Some, None, All, sym, ap, subst, ◌∙◌, option_map, arith}
 use Rattle.std.specs.Prelude.{nat_le}
 use Rattle.std.specs.List.{list_all}
 use Rattle.std.proofs.lemmas.Bool.{and_parts, leb-true, false≢true}
 use Rattle.std.proofs.lemmas.List.Elements.{All-nil, All-cons}
 use Rattle.aq_base.specs.declared.DbId.{DbId}
-use Rattle.aq_base.specs.declared.limits.TheConstants.{MOMENT_LIMIT, NEXT_LIMIT, RECIPIENT_LIMIT}
+use Rattle.aq_base.specs.declared.limits.TheConstants.{RECIPIENT_LIMIT}
 use Rattle.queue_rows.specs.Rows.{find_queue, find_table, recipient_count}
 use Rattle.queue_rows.specs.Valid.{is_same_message, is_valid, is_valid_message, is_valid_message_at, is_valid_message_in}
 use Rattle.queue_rows.specs.declared.tables.Tables.{Tables}

@@ -1,5 +1,5 @@
 -- What keeps a run sound: it begins so, and each reading and each legal step leaves it so.
-use Rattle.std.proofs.Common.{◌≡◌, ◌≢◌, ◌⊎◌, inl, inr, ℕ, zero, suc, ◌+◌, ◌≤◌, List, [], ◌∷◌, true, false, None, Some, All, refl, sym, ap, subst, ◌∙◌, arith, length, ◌&&◌}
+use Rattle.std.proofs.Common.{◌≡◌, inl, inr, ℕ, zero, suc, ◌+◌, ◌≤◌, List, [], ◌∷◌, true, false, None, Some, sym, subst, arith, length, ◌&&◌}
 use Rattle.std.specs.Prelude.{slice_get, slice_set, map, nat_le}
 use Rattle.std.specs.List.{list_all}
 use Rattle.std.specs.Str.{bytes_eq}
@@ -11,10 +11,7 @@ use Rattle.std.proofs.lemmas.List.Elements.{All-nil}
 use Rattle.aq_base.specs.declared.DbId.{DbId}
 use Rattle.aq_base.specs.declared.DbId.TheVariants.{Home, Away}
 use Rattle.aq_base.specs.declared.limits.TheConstants.{SESSION_LIMIT, STATEMENT_LIMIT}
-use Rattle.built_statements.specs.Ordered.{are_ordered}
 use Rattle.queue_rows.specs.Session.{Session, standing_after}
-use Rattle.queue_rows.specs.Tables.{empty_tables}
-use Rattle.queue_rows.specs.Valid.{is_valid}
 use Rattle.queue_rows.specs.Within.{are_within, statement_count, is_script_within}
 use Rattle.queue_rows.specs.Distinct.{are_distinct}
 use Rattle.queue_rows.specs.World.{fresh}
@@ -23,8 +20,11 @@ use Rattle.queue_rows.specs.declared.history.SlotRef.{SlotRef}
 use Rattle.queue_rows.specs.declared.history.SessionScript.{SessionScript}
 use Rattle.queue_rows.specs.declared.history.Step.{Step}
 use Rattle.queue_rows.specs.declared.history.Step.TheVariants.{Call, Park, Timer, Offer, Arrive, Confirm, Told, Flush, End}
+use Rattle.queue_rows.specs.declared.tables.Tables.{Tables}
 use Rattle.queue_rows.proofs.Sessions.{get_set-cases}
+use Rattle.database_recovery.specs.Sound.{IsSound as IsSoundTables}
 use Rattle.sessions.specs.Numbers.{IsPendable}
+use Rattle.world_laws.specs.ValidWorld.{AreScripts}
 use Rattle.world_laws.specs.WorldLaws.{MayBegin}
 use Rattle.run_laws.specs.World.{World, opened, read_clock}
 use Rattle.run_laws.specs.Sending.{sent, offers}
@@ -51,26 +51,22 @@ few_scripts scripts h =
     let p2 = and_parts (nat_le (length scripts) SESSION_LIMIT && nat_le (statement_count scripts) STATEMENT_LIMIT) (are_distinct bytes_eq (map (λ script. script.name) scripts)) p3.0 in
     leb-true (length scripts) SESSION_LIMIT (and_parts (nat_le (length scripts) SESSION_LIMIT) (nat_le (statement_count scripts) STATEMENT_LIMIT) p2.0).0
 
-empty_valid_tables : is_valid empty_tables ≡ true
-unfolding is_valid
-empty_valid_tables = refl
-
--- scripts that keep the limits may begin over empty tables
-pub may_begin : (scripts : List SessionScript) → are_within scripts ≡ true → are_ordered scripts ≡ true → MayBegin empty_tables empty_tables scripts
-may_begin scripts within ordered = record {
-  home_valid = empty_valid_tables;
-  away_valid = empty_valid_tables;
-  home_fields = refl;
-  away_fields = refl;
-  may_ask = record { within = within; ordered = ordered };
+-- scripts that keep the limits may begin over tables that were recovered
+pub may_begin : (home away : Tables) (scripts : List SessionScript) → IsSoundTables home → IsSoundTables away → AreScripts scripts → MayBegin home away scripts
+may_begin home away scripts h a s = record {
+  home_valid = h.valid;
+  away_valid = a.valid;
+  home_fields = h.fields;
+  away_fields = a.fields;
+  may_ask = s;
 }
 
-pub sound_opened : (scripts : List SessionScript) → are_within scripts ≡ true → are_ordered scripts ≡ true → IsSound (opened empty_tables empty_tables scripts)
+pub sound_opened : (home away : Tables) (scripts : List SessionScript) → MayBegin home away scripts → IsSound (opened home away scripts)
 unfolding opened
-sound_opened scripts within ordered = record {
-  valid = opens_valid empty_tables empty_tables scripts (may_begin scripts within ordered);
-  grouped = opens_grouped empty_tables empty_tables scripts;
-  few = let n = few_scripts scripts within in rw length-map n;
+sound_opened home away scripts m = record {
+  valid = opens_valid home away scripts m;
+  grouped = opens_grouped home away scripts;
+  few = let n = few_scripts scripts m.may_ask.within in rw length-map n;
   each = fresh_sound scripts;
 }
 

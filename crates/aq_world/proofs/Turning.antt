@@ -1,9 +1,8 @@
 -- What turns come to.
-use Rattle.std.proofs.Common.{◌≡◌, ◌⊎◌, ◌<◌, ◌-◌, ◌^◌, inl, inr, ℕ, suc, Bool, true, false, not, Option, Some, None, Result, refl, sym, ap, subst, ◌∙◌, option_map, arith}
-use Rattle.std.specs.Prelude.{Ok, Err, OnErr, ◌||◌, ◌&&◌, ◌==◌, nat_lt, slice_get, is_some, is_none, if◌then◌else◌, IfSome, length}
+use Rattle.std.proofs.Common.{◌≡◌, ◌<◌, ◌-◌, ◌^◌, inl, inr, ℕ, suc, Bool, true, false, not, Option, Some, None, Result, refl, sym, ap, subst, ◌∙◌, option_map, arith}
+use Rattle.std.specs.Prelude.{Ok, Err, OnErr, ◌||◌, ◌&&◌, ◌==◌, nat_lt, slice_get, is_some, if◌then◌else◌, IfSome, length}
 use Rattle.std.proofs.lemmas.Bool.{or_left, or_right, lt-ltb, le-ltb}
 use Rattle.std.proofs.lemmas.Option.{none-some, slice_get_within}
-use Rattle.queue_rows.specs.Meaning.{Meaning, answers, parks}
 use Rattle.queue_rows.specs.Order.{IsFront}
 use Rattle.queue_rows.specs.Session.{Session, Untold}
 use Rattle.queue_rows.specs.declared.history.Step.TheVariants.{Timer}
@@ -14,7 +13,7 @@ use Rattle.run_laws.specs.Sending.{next_sending}
 use Rattle.run_laws.specs.Serial.{at_closing, next_closing_turn, next_session_turn, next_timer_turn, next_propagator_turn}
 use Rattle.run_laws.specs.Statements.{next_statement}
 use Rattle.run_laws.specs.Turns.{next_reading, is_due, timed, caught_up, begun, own_turn, flushed, told, any_live, propagated, drained, drained_once, is_still, closing_turn, DrainsIn}
-use Rattle.run_laws.specs.Legal.{MayStep, is_actor, is_sender}
+use Rattle.run_laws.specs.Legal.{is_actor, is_sender}
 use Rattle.run_laws.specs.ValidRun.{IsValidWorld}
 use Rattle.run_laws.proofs.Worlds.{step_keeps_valid}
 use Rattle.run_turns.proofs.Growing.{front_same, front_trans, drained_longer, grows_drained, grows_flushed, grows_told}

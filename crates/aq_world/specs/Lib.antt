@@ -1,4 +1,6 @@
 pub mod Calling
+pub mod Going
+pub mod Mounting
 pub mod Sendings
 pub mod Sound
 pub mod Stepping

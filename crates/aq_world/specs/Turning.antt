@@ -9,6 +9,8 @@ use Rattle.run_laws.specs.World.{World, read_clock}
 use Rattle.run_laws.specs.Turns.{session_turn, timer_turn, propagator_turn, any_live, is_due, caught_up, begun, flushed, drained, next_reading}
 use Rattle.run_laws.specs.ValidRun.{IsValidWorld}
 use Rattle.run_state.specs.Entries.{IsUntold}
+use Rattle.durable_state.specs.declared.broken.Broken.{Broken}
+use Rattle.durable_state.specs.declared.broken.Broken.TheVariants as reasons
 use Rattle.aq_world.specs.declared.turn_end.TurnEnd.{TurnEnd}
 use Rattle.aq_world.specs.declared.turn_end.TurnEnd.TheVariants as ends
 
@@ -91,6 +93,11 @@ IsWhole ends.Halted = ⊥
 IsWhole ends.Memory = ⊥
 
 -- ---- turns that are broken off
+
+-- how it is told why
+abbrev pub broken_end : Broken → TurnEnd
+broken_end reasons.Memory = ends.Memory
+broken_end reasons.Halted = ends.Halted
 
 -- another turn was broken off: at most the clock was read, what was due was done, and commits were made durable
 abbrev pub IsUndone : ℕ → ℕ → World → World → Type 0

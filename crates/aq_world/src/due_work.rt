@@ -4,8 +4,11 @@ ghost use Rattle.run_laws.specs.Statements.{slot_sent};
 ghost use Rattle.run_laws.specs.Turns.{begun, caught_up, due_at, is_due, next_reading};
 ghost use Rattle.run_laws.specs.ValidRun.{IsValidWorld};
 ghost use Rattle.run_laws.specs.World.{read_clock};
+ghost use Rattle.aq_world.specs.Going.{GoesQuietly};
 
 use aq_base::{DbId, MOMENT_LIMIT};
+use aq_disk::Disk;
+use durable_state::DurableState;
 use payload_records::List;
 use queue_rows::{Change, SlotRef};
 use run_state::RunState;
@@ -40,14 +43,15 @@ pub fn due_at(state: &RunState, db: DbId) -> Result<List<Change>, AllocError>
 
 /// Does the work that is due, and tells whether there was any. At want of memory all is as before.
 #[tactic(auto, unfolding(run_laws::specs::Turns::caught_up, run_laws::specs::Turns::is_due))]
-pub fn catch_up(state: &mut RunState, actor: u32) -> Result<bool, AllocError>
-    requires { IsValidWorld state.old }
-    ensures ok { OnOk result (state.new ≡ caught_up actor state.old) }
-    ensures due { IfOk result (λ was_due. was_due ≡ is_due state.old) }
-    ensures err { OnErr result (state.new ≡ state.old) }
+pub fn catch_up<D: Disk>(state: &mut DurableState<D>, actor: u32) -> Result<bool, AllocError>
+    requires { IsValidWorld state.old.world }
+    ensures ok { OnOk result (state.new.world ≡ caught_up actor state.old.world) }
+    ensures due { IfOk result (λ was_due. was_due ≡ is_due state.old.world) }
+    ensures err { OnErr result (state.new.world ≡ state.old.world) }
+    ensures disks { GoesQuietly D.seen D.is_image D.calls D.faults state.old state.new }
 {
-    let home = due_at(state, DbId::Home)?;
-    let away = due_at(state, DbId::Away)?;
+    let home = due_at(state.run(), DbId::Home)?;
+    let away = due_at(state.run(), DbId::Away)?;
     if home.is_empty() && away.is_empty() {
         return Ok(false);
     }
@@ -67,24 +71,26 @@ fn next_reading(state: &RunState) -> u64
 }
 
 /// Takes the next reading of the clock.
-pub fn read_next(state: &mut RunState)
-    requires { state.old.readings + 1 < 2 ^ 64 }
-    ensures { state.new ≡ read_clock (next_reading state.old) state.old }
+pub fn read_next<D: Disk>(state: &mut DurableState<D>)
+    requires { state.old.world.readings + 1 < 2 ^ 64 }
+    ensures world { state.new.world ≡ read_clock (next_reading state.old.world) state.old.world }
+    ensures disks { GoesQuietly D.seen D.is_image D.calls D.faults state.old state.new }
 {
-    let reading = next_reading(state);
+    let reading = next_reading(state.run());
     state.read_clock(reading);
 }
 
 /// A turn begins: it takes the next reading of the clock, and then does what is due; whether there was any is told. At want of memory
 /// the clock alone was read.
 #[tactic(auto, using(run_laws::proofs::Worlds::reading_keeps_valid))]
-pub fn begin(state: &mut RunState, actor: u32) -> Result<bool, AllocError>
-    requires valid { IsValidWorld state.old }
-    requires readings { state.old.readings + 1 < 2 ^ 64 }
-    ensures ok { OnOk result (state.new ≡ begun actor (next_reading state.old) state.old) }
+pub fn begin<D: Disk>(state: &mut DurableState<D>, actor: u32) -> Result<bool, AllocError>
+    requires valid { IsValidWorld state.old.world }
+    requires readings { state.old.world.readings + 1 < 2 ^ 64 }
+    ensures ok { OnOk result (state.new.world ≡ begun actor (next_reading state.old.world) state.old.world) }
     ensures due { IfOk result (λ was_due.
-        was_due ≡ is_due (read_clock (next_reading state.old) state.old)) }
-    ensures err { OnErr result (state.new ≡ read_clock (next_reading state.old) state.old) }
+        was_due ≡ is_due (read_clock (next_reading state.old.world) state.old.world)) }
+    ensures err { OnErr result (state.new.world ≡ read_clock (next_reading state.old.world) state.old.world) }
+    ensures disks { GoesQuietly D.seen D.is_image D.calls D.faults state.old state.new }
 {
     read_next(state);
     catch_up(state, actor)

@@ -2,6 +2,7 @@
 #![tactic(auto)]
 
 mod due_work;
+mod mount;
 mod own_turn;
 mod respond;
 mod sending;
@@ -9,5 +10,6 @@ mod turn_end;
 mod turns;
 mod world;
 
+pub use mount::{MountCause, MountFault};
 pub use turn_end::TurnEnd;
 pub use world::World;

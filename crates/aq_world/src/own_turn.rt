@@ -3,6 +3,7 @@ ghost use Rattle.std.specs.Prelude.{◌≡◌, ◌⊎◌, IfOk, OnOk, OnErr};
 ghost use Rattle.run_laws.specs.Statements.{next_statement};
 ghost use Rattle.run_laws.specs.Turns.{own_turn};
 ghost use Rattle.run_state.specs.Sessions.{OfSession};
+ghost use Rattle.aq_world.specs.Going.{GoesQuietly};
 ghost use Rattle.aq_world.specs.Sound.{IsSound};
 ghost use Rattle.aq_world.specs.Stepping.{IsNext};
 ghost use Rattle.aq_world.specs.Turning.{end_by, next_meaning};
@@ -10,6 +11,8 @@ ghost use Rattle.aq_world.specs.Turning.{end_by, next_meaning};
 use crate::due_work::slot_sent;
 use crate::respond::{Caller, Doing, respond};
 use crate::turn_end::TurnEnd;
+use aq_disk::Disk;
+use durable_state::DurableState;
 use run_state::RunState;
 use std::alloc::AllocError;
 
@@ -38,15 +41,16 @@ fn next_doing(state: &RunState, at: u32) -> Result<Option<Doing>, AllocError>
 }
 
 /// The session of that number does what comes next, and the turn ends so. At want of memory all is as before.
-pub fn own_turn(state: &mut RunState, at: u32) -> Result<TurnEnd, AllocError>
-    requires { IsSound state.old }
-    ensures ok { OnOk result (OfSession at state.old (λ s.
-        state.new ≡ own_turn at s (next_statement state.old at s) state.old)) }
-    ensures end { IfOk result (λ end. OfSession at state.old (λ s.
-        end ≡ end_by (next_meaning state.old at s))) }
-    ensures err { OnErr result (state.new ≡ state.old) }
+pub fn own_turn<D: Disk>(state: &mut DurableState<D>, at: u32) -> Result<TurnEnd, AllocError>
+    requires { IsSound state.old.world }
+    ensures ok { OnOk result (OfSession at state.old.world (λ s.
+        state.new.world ≡ own_turn at s (next_statement state.old.world at s) state.old.world)) }
+    ensures end { IfOk result (λ end. OfSession at state.old.world (λ s.
+        end ≡ end_by (next_meaning state.old.world at s))) }
+    ensures err { OnErr result (state.new.world ≡ state.old.world) }
+    ensures disks { GoesQuietly D.seen D.is_image D.calls D.faults state.old state.new }
 {
-    match next_doing(state, at)? {
+    match next_doing(state.run(), at)? {
         Some(Doing::Call(effect)) => {
             state.call(at, effect)?;
             Ok(TurnEnd::Done)

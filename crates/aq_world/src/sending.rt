@@ -7,9 +7,12 @@ ghost use Rattle.run_laws.specs.Turns.{propagated};
 ghost use Rattle.run_laws.specs.ValidRun.{IsValidWorld};
 ghost use Rattle.run_laws.specs.World.{on_its_way, came};
 ghost use Rattle.run_state.specs.Entries.{IsUntold};
+ghost use Rattle.aq_world.specs.Going.{GoesAs, GoesQuietly};
 ghost use Rattle.aq_world.specs.Sendings.{sending_meant, made_ready, HasIds};
 
 use aq_base::DbId;
+use aq_disk::Disk;
+use durable_state::{Broken, DurableState};
 use payload_records::{Copied, List, Name};
 use propagation::{Arriving, arrive, confirm, pick, schedule_of};
 use queue_rows::{Change, SlotRef};
@@ -155,22 +158,33 @@ fn may_follow(state: &RunState, sending: &Sending) -> bool
     }
 }
 
-/// Makes every commit durable where the step needs it. At want of memory all is as before.
-fn make_ready(state: &mut RunState, actor: u32, sending: &Sending) -> Result<(), AllocError>
-    ensures ok { OnOk result (state.new ≡ made_ready actor (sending_meant sending.now) state.old) }
-    ensures err { OnErr result (state.new ≡ state.old) }
+/// Makes every commit durable where the step needs it. Broken off, the world is as before.
+fn make_ready<D: Disk>(
+    state: &mut DurableState<D>,
+    actor: u32,
+    sending: &Sending,
+) -> Result<(), Broken>
+    ensures ok { OnOk result
+        (state.new.world ≡ made_ready actor (sending_meant sending.now) state.old.world) }
+    ensures err { OnErr result (state.new.world ≡ state.old.world) }
+    ensures disks { GoesAs D.seen D.is_image D.calls D.faults result state.old state.new }
 {
-    if may_follow(state, sending) {
+    if may_follow(state.run(), sending) {
         return Ok(());
     }
     state.flush(actor)
 }
 
 /// Makes the step. At want of memory all is as before.
-fn send(state: &mut RunState, actor: u32, sending: Sending) -> Result<(), AllocError>
-    requires { HasIds state.old }
-    ensures ok { OnOk result (state.new ≡ sent actor (sending_meant sending) state.old) }
-    ensures err { OnErr result (state.new ≡ state.old) }
+fn send<D: Disk>(
+    state: &mut DurableState<D>,
+    actor: u32,
+    sending: Sending,
+) -> Result<(), AllocError>
+    requires { HasIds state.old.world }
+    ensures ok { OnOk result (state.new.world ≡ sent actor (sending_meant sending) state.old.world) }
+    ensures err { OnErr result (state.new.world ≡ state.old.world) }
+    ensures disks { GoesQuietly D.seen D.is_image D.calls D.faults state.old state.new }
 {
     match sending {
         Sending::Offer { at, to } => state.offer(actor, at, to),
@@ -179,17 +193,19 @@ fn send(state: &mut RunState, actor: u32, sending: Sending) -> Result<(), AllocE
     }
 }
 
-/// Makes the step of propagation that comes next, if there is one, after a flush where one must be; whether there was one is told. At
-/// want of memory all is as before, but that every commit may be durable.
+/// Makes the step of propagation that comes next, if there is one, after a flush where one must be; whether there was one is told. Broken
+/// off, the world is as before, but that every commit may be durable.
 #[tactic(auto, using(crate::proofs::Sendings::none_sent, crate::proofs::Sendings::ready_front, crate::proofs::Sendings::ready_ids, crate::proofs::Sendings::ready_untold, crate::proofs::Sendings::sent_whole, crate::proofs::Sendings::untouched_front))]
-pub fn propagate(state: &mut RunState, actor: u32) -> Result<bool, AllocError>
-    requires { IsValidWorld state.old }
-    ensures ok { OnOk result (state.new ≡ propagated actor state.old) }
-    ensures sent { IfOk result (λ was_sent. was_sent ≡ is_some (next_sending state.old)) }
-    ensures err { OnErr result (IsUntold actor state.old state.new) }
-    ensures front { OnErr result (IsFront state.new.entries (propagated actor state.old).entries) }
+pub fn propagate<D: Disk>(state: &mut DurableState<D>, actor: u32) -> Result<bool, Broken>
+    requires { IsValidWorld state.old.world }
+    ensures ok { OnOk result (state.new.world ≡ propagated actor state.old.world) }
+    ensures sent { IfOk result (λ was_sent. was_sent ≡ is_some (next_sending state.old.world)) }
+    ensures err { OnErr result (IsUntold actor state.old.world state.new.world) }
+    ensures front { OnErr result
+        (IsFront state.new.world.entries (propagated actor state.old.world).entries) }
+    ensures disks { GoesAs D.seen D.is_image D.calls D.faults result state.old state.new }
 {
-    let Some(sending) = next_sending(state)? else {
+    let Some(sending) = next_sending(state.run())? else {
         return Ok(false);
     };
     make_ready(state, actor, &sending)?;

@@ -11,7 +11,7 @@ pub enum TurnEnd {
     Idle,
     /// The session had ended before the turn; or, for the timer and the propagator, no session goes on.
     Ended,
-    /// A journal could not be written: no later turn does anything.
+    /// A call on a disk failed, now or before, and the turn was broken off where a commit was to be made durable.
     Halted,
     /// Memory ran out, and the turn was broken off.
     Memory,

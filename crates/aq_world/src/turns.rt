@@ -5,6 +5,7 @@ ghost use Rattle.run_laws.specs.Serial.{at_closing, next_closing_turn, next_prop
 ghost use Rattle.run_laws.specs.Turns.{drained, drained_once, is_still, next_reading, DrainsIn};
 ghost use Rattle.run_laws.specs.ValidRun.{IsValidWorld};
 ghost use Rattle.run_state.specs.Entries.{IsUntold};
+ghost use Rattle.aq_world.specs.Going.{GoesAs};
 ghost use Rattle.aq_world.specs.Sound.{IsSound};
 ghost use Rattle.aq_world.specs.Turning.{IsActor, IsBrokenOff, IsCalling, IsDrainable, IsOwed, IsPartDrained, IsPartOfStep, IsUnclosed, IsUndone};
 ghost use Rattle.aq_world.specs.Turning.{background_end, next_turned, session_end, turn_end};
@@ -14,8 +15,8 @@ use crate::due_work::{begin, catch_up, read_next};
 use crate::own_turn::own_turn;
 use crate::sending::propagate;
 use crate::turn_end::TurnEnd;
-use run_state::RunState;
-use std::alloc::AllocError;
+use aq_disk::Disk;
+use durable_state::{Broken, DurableState};
 
 /// The number of the timer among the actors.
 const TIMER: u32 = 64;
@@ -28,12 +29,18 @@ const CLOSING: u32 = 66;
 
 /// A turn in which the session of that number is told the reply to its statement.
 #[tactic(auto, using(crate::proofs::Turning::told_whole, crate::proofs::Turning::untold_front))]
-fn telling_turn(state: &mut RunState, at: u32, number: u32) -> Result<TurnEnd, AllocError>
-    requires { IsOwed state.old at number }
-    ensures ok { OnOk result (state.new ≡ next_session_turn at state.old) }
+fn telling_turn<D: Disk>(
+    state: &mut DurableState<D>,
+    at: u32,
+    number: u32,
+) -> Result<TurnEnd, Broken>
+    requires { IsOwed state.old.world at number }
+    ensures ok { OnOk result (state.new.world ≡ next_session_turn at state.old.world) }
     ensures end { IfOk result (λ end. end ≡ Done) }
-    ensures err { OnErr result (IsUntold at state.old state.new) }
-    ensures front { OnErr result (IsFront state.new.entries (next_session_turn at state.old).entries) }
+    ensures err { OnErr result (IsUntold at state.old.world state.new.world) }
+    ensures front { OnErr result
+        (IsFront state.new.world.entries (next_session_turn at state.old.world).entries) }
+    ensures disks { GoesAs D.seen D.is_image D.calls D.faults result state.old state.new }
 {
     state.tell(at, number)?;
     Ok(TurnEnd::Done)
@@ -41,34 +48,41 @@ fn telling_turn(state: &mut RunState, at: u32, number: u32) -> Result<TurnEnd, A
 
 /// A turn in which the session of that number, which was told all and goes on, calls a statement, waits or ends.
 #[tactic(auto, using(crate::proofs::Turning::begun_front, crate::proofs::Turning::called_end, crate::proofs::Turning::called_whole, crate::proofs::Turning::read_front, crate::proofs::Turning::sound_at_call))]
-fn calling_turn(state: &mut RunState, at: u32) -> Result<TurnEnd, AllocError>
-    requires sound { IsSound state.old }
-    requires readings { state.old.readings < 2 ^ 63 }
-    requires calling { IsCalling state.old at }
-    ensures ok { OnOk result (state.new ≡ next_session_turn at state.old) }
+fn calling_turn<D: Disk>(state: &mut DurableState<D>, at: u32) -> Result<TurnEnd, Broken>
+    requires sound { IsSound state.old.world }
+    requires readings { state.old.world.readings < 2 ^ 63 }
+    requires calling { IsCalling state.old.world at }
+    ensures ok { OnOk result (state.new.world ≡ next_session_turn at state.old.world) }
     ensures end { IfOk result (λ end.
-        end ≡ session_end (next_reading state.old) at (slice_get state.old.sessions at) state.old) }
-    ensures err { OnErr result (IsUndone at (next_reading state.old) state.old state.new) }
-    ensures front { OnErr result (IsFront state.new.entries (next_session_turn at state.old).entries) }
+        end ≡ session_end (next_reading state.old.world) at
+        (slice_get state.old.world.sessions at) state.old.world) }
+    ensures err { OnErr result (IsUndone at (next_reading state.old.world) state.old.world state.new.world) }
+    ensures front { OnErr result
+        (IsFront state.new.world.entries (next_session_turn at state.old.world).entries) }
+    ensures disks { GoesAs D.seen D.is_image D.calls D.faults result state.old state.new }
 {
     begin(state, at)?;
-    own_turn(state, at)
+    Ok(own_turn(state, at)?)
 }
 
 /// The turn of the session of that number. One whose last call is not yet told is told it; else it calls its next statement, waits with
-/// it, or ends where it has called all. At want of memory the turn is broken off.
+/// it, or ends where it has called all. At want of memory, or where a disk fails, the turn is broken off.
 #[tactic(auto, using(crate::proofs::Turning::calling_broken, crate::proofs::Turning::calling_so, crate::proofs::Turning::none_end, crate::proofs::Turning::none_whole, crate::proofs::Turning::over_end, crate::proofs::Turning::over_whole, crate::proofs::Turning::owed_broken, crate::proofs::Turning::owed_so, crate::proofs::Turning::told_end))]
-fn session_turn(state: &mut RunState, at: u32) -> Result<TurnEnd, AllocError>
-    requires sound { IsSound state.old }
+fn session_turn<D: Disk>(state: &mut DurableState<D>, at: u32) -> Result<TurnEnd, Broken>
+    requires sound { IsSound state.old.world }
     requires session { at < 64 }
-    requires readings { state.old.readings < 2 ^ 63 }
-    ensures ok { OnOk result (state.new ≡ next_session_turn at state.old) }
+    requires readings { state.old.world.readings < 2 ^ 63 }
+    ensures ok { OnOk result (state.new.world ≡ next_session_turn at state.old.world) }
     ensures end { IfOk result (λ end.
-        end ≡ session_end (next_reading state.old) at (slice_get state.old.sessions at) state.old) }
-    ensures err { OnErr result (IsBrokenOff at (next_reading state.old) state.old state.new) }
-    ensures front { OnErr result (IsFront state.new.entries (next_session_turn at state.old).entries) }
+        end ≡ session_end (next_reading state.old.world) at
+        (slice_get state.old.world.sessions at) state.old.world) }
+    ensures err { OnErr result
+        (IsBrokenOff at (next_reading state.old.world) state.old.world state.new.world) }
+    ensures front { OnErr result
+        (IsFront state.new.world.entries (next_session_turn at state.old.world).entries) }
+    ensures disks { GoesAs D.seen D.is_image D.calls D.faults result state.old state.new }
 {
-    let Some(session) = state.session(at) else {
+    let Some(session) = state.run().session(at) else {
         return Ok(TurnEnd::Ended);
     };
     if let Some(untold) = session.untold {
@@ -82,15 +96,18 @@ fn session_turn(state: &mut RunState, at: u32) -> Result<TurnEnd, AllocError>
 
 /// A turn of the timer: it does what is due. With no session live it is its last, and takes no reading.
 #[tactic(auto, using(crate::proofs::Turning::over_ends, crate::proofs::Turning::timer_broken, crate::proofs::Turning::timer_ends, crate::proofs::Turning::timer_front, crate::proofs::Turning::timer_over, crate::proofs::Turning::timer_whole))]
-fn timer_turn(state: &mut RunState) -> Result<TurnEnd, AllocError>
-    requires sound { IsSound state.old }
-    requires readings { state.old.readings < 2 ^ 63 }
-    ensures ok { OnOk result (state.new ≡ next_timer_turn state.old) }
-    ensures end { IfOk result (λ end. end ≡ background_end (next_reading state.old) 64 state.old) }
-    ensures err { OnErr result (IsBrokenOff 64 (next_reading state.old) state.old state.new) }
-    ensures front { OnErr result (IsFront state.new.entries (next_timer_turn state.old).entries) }
+fn timer_turn<D: Disk>(state: &mut DurableState<D>) -> Result<TurnEnd, Broken>
+    requires sound { IsSound state.old.world }
+    requires readings { state.old.world.readings < 2 ^ 63 }
+    ensures ok { OnOk result (state.new.world ≡ next_timer_turn state.old.world) }
+    ensures end { IfOk result (λ end.
+        end ≡ background_end (next_reading state.old.world) 64 state.old.world) }
+    ensures err { OnErr result
+        (IsBrokenOff 64 (next_reading state.old.world) state.old.world state.new.world) }
+    ensures front { OnErr result (IsFront state.new.world.entries (next_timer_turn state.old.world).entries) }
+    ensures disks { GoesAs D.seen D.is_image D.calls D.faults result state.old state.new }
 {
-    if !state.any_live() {
+    if !state.run().any_live() {
         return Ok(TurnEnd::Ended);
     }
     let was_due = begin(state, TIMER)?;
@@ -104,15 +121,19 @@ fn timer_turn(state: &mut RunState) -> Result<TurnEnd, AllocError>
 /// A turn of the propagator: it does what is due, and makes one step of propagation. With no session live it is its last, and takes no
 /// reading.
 #[tactic(auto, using(crate::proofs::Turning::over_ends, crate::proofs::Turning::propagator_broken, crate::proofs::Turning::propagator_broken_read, crate::proofs::Turning::propagator_ends, crate::proofs::Turning::propagator_front, crate::proofs::Turning::propagator_over, crate::proofs::Turning::propagator_read_front, crate::proofs::Turning::propagator_whole, crate::proofs::Turning::valid_begun))]
-fn propagator_turn(state: &mut RunState) -> Result<TurnEnd, AllocError>
-    requires sound { IsSound state.old }
-    requires readings { state.old.readings < 2 ^ 63 }
-    ensures ok { OnOk result (state.new ≡ next_propagator_turn state.old) }
-    ensures end { IfOk result (λ end. end ≡ background_end (next_reading state.old) 65 state.old) }
-    ensures err { OnErr result (IsBrokenOff 65 (next_reading state.old) state.old state.new) }
-    ensures front { OnErr result (IsFront state.new.entries (next_propagator_turn state.old).entries) }
+fn propagator_turn<D: Disk>(state: &mut DurableState<D>) -> Result<TurnEnd, Broken>
+    requires sound { IsSound state.old.world }
+    requires readings { state.old.world.readings < 2 ^ 63 }
+    ensures ok { OnOk result (state.new.world ≡ next_propagator_turn state.old.world) }
+    ensures end { IfOk result (λ end.
+        end ≡ background_end (next_reading state.old.world) 65 state.old.world) }
+    ensures err { OnErr result
+        (IsBrokenOff 65 (next_reading state.old.world) state.old.world state.new.world) }
+    ensures front { OnErr result
+        (IsFront state.new.world.entries (next_propagator_turn state.old.world).entries) }
+    ensures disks { GoesAs D.seen D.is_image D.calls D.faults result state.old state.new }
 {
-    if !state.any_live() {
+    if !state.run().any_live() {
         return Ok(TurnEnd::Ended);
     }
     let was_due = begin(state, PROPAGATOR)?;
@@ -126,14 +147,17 @@ fn propagator_turn(state: &mut RunState) -> Result<TurnEnd, AllocError>
 
 /// The turn of an actor: of the session of that number, of the timer or of the propagator. At want of memory it is broken off.
 #[tactic(auto, using(crate::proofs::Running::is_propagator, crate::proofs::Running::propagator_ended, crate::proofs::Running::propagator_turned, crate::proofs::Running::session_ends, crate::proofs::Running::session_turned, crate::proofs::Running::timer_ended, crate::proofs::Running::timer_turned))]
-pub fn turn(state: &mut RunState, actor: u32) -> Result<TurnEnd, AllocError>
-    requires sound { IsSound state.old }
-    requires actor { IsActor state.old actor }
-    requires readings { state.old.readings < 2 ^ 63 }
-    ensures ok { OnOk result (state.new ≡ next_turned actor state.old) }
-    ensures end { IfOk result (λ end. end ≡ turn_end (next_reading state.old) actor state.old) }
-    ensures err { OnErr result (IsBrokenOff actor (next_reading state.old) state.old state.new) }
-    ensures front { OnErr result (IsFront state.new.entries (next_turned actor state.old).entries) }
+pub fn turn<D: Disk>(state: &mut DurableState<D>, actor: u32) -> Result<TurnEnd, Broken>
+    requires sound { IsSound state.old.world }
+    requires actor { IsActor state.old.world actor }
+    requires readings { state.old.world.readings < 2 ^ 63 }
+    ensures ok { OnOk result (state.new.world ≡ next_turned actor state.old.world) }
+    ensures end { IfOk result (λ end. end ≡ turn_end (next_reading state.old.world) actor state.old.world) }
+    ensures err { OnErr result
+        (IsBrokenOff actor (next_reading state.old.world) state.old.world state.new.world) }
+    ensures front { OnErr result
+        (IsFront state.new.world.entries (next_turned actor state.old.world).entries) }
+    ensures disks { GoesAs D.seen D.is_image D.calls D.faults result state.old state.new }
 {
     match actor {
         0..=63 => session_turn(state, actor),
@@ -145,27 +169,30 @@ pub fn turn(state: &mut RunState, actor: u32) -> Result<TurnEnd, AllocError>
 /// What is due is done, and then one step of propagation; whether there was anything to do is told. At want of memory there are the first
 /// entries of that.
 #[tactic(auto, using(crate::proofs::Turning::more_so, crate::proofs::Turning::part_of_step, crate::proofs::Turning::step_front, crate::proofs::Turning::untouched_step, crate::proofs::Turning::valid_drained))]
-fn drain_once(state: &mut RunState) -> Result<bool, AllocError>
-    requires { IsValidWorld state.old }
-    ensures ok { OnOk result (state.new ≡ drained_once state.old) }
-    ensures more { IfOk result (λ more. more ≡ not (is_still state.old)) }
-    ensures room { OnOk result (length state.new.entries < 2 ^ 64) }
-    ensures err { OnErr result (IsPartOfStep state.old state.new) }
-    ensures front { OnErr result (IsFront state.new.entries (drained_once state.old).entries) }
+fn drain_once<D: Disk>(state: &mut DurableState<D>) -> Result<bool, Broken>
+    requires { IsValidWorld state.old.world }
+    ensures ok { OnOk result (state.new.world ≡ drained_once state.old.world) }
+    ensures more { IfOk result (λ more. more ≡ not (is_still state.old.world)) }
+    ensures room { OnOk result (length state.new.world.entries < 2 ^ 64) }
+    ensures err { OnErr result (IsPartOfStep state.old.world state.new.world) }
+    ensures front { OnErr result (IsFront state.new.world.entries (drained_once state.old.world).entries) }
+    ensures disks { GoesAs D.seen D.is_image D.calls D.faults result state.old state.new }
 {
-    let before = state.entry_count();
+    let before = state.run().entry_count();
     catch_up(state, CLOSING)?;
     propagate(state, CLOSING)?;
-    Ok(state.entry_count() > before)
+    Ok(state.run().entry_count() > before)
 }
 
 /// Drains until nothing is due and nothing can be sent. At want of memory there are the first entries of some number of steps.
-fn drain(state: &mut RunState) -> Result<(), AllocError>
-    requires { IsDrainable state.old }
-    ensures ok { OnOk result ((steps : ℕ) × DrainsIn state.old steps
-        × (state.new ≡ drained steps state.old)) }
-    ensures err { OnErr result (IsPartDrained state.old state.new) }
-    ensures front { OnErr result ((steps : ℕ) × IsFront state.new.entries (drained steps state.old).entries) }
+fn drain<D: Disk>(state: &mut DurableState<D>) -> Result<(), Broken>
+    requires { IsDrainable state.old.world }
+    ensures ok { OnOk result ((steps : ℕ) × DrainsIn state.old.world steps
+        × (state.new.world ≡ drained steps state.old.world)) }
+    ensures err { OnErr result (IsPartDrained state.old.world state.new.world) }
+    ensures front { OnErr result
+        ((steps : ℕ) × IsFront state.new.world.entries (drained steps state.old.world).entries) }
+    ensures disks { GoesAs D.seen D.is_image D.calls D.faults result state.old state.new }
 {
     // Each step that does something adds an entry, and a list has room for so many alone.
     loop {
@@ -178,14 +205,15 @@ fn drain(state: &mut RunState) -> Result<(), AllocError>
 
 /// The turn that follows when no session goes on any more: with one reading it drains, and then makes every commit durable.
 #[tactic(auto, using(crate::proofs::Turning::closed_part, crate::proofs::Turning::closed_so, crate::proofs::Turning::drainable_behind, crate::proofs::Turning::part_behind, crate::proofs::Turning::unclosed_at_flush, crate::proofs::Turning::unclosed_behind))]
-pub fn closing_turn(state: &mut RunState) -> Result<TurnEnd, AllocError>
-    requires drainable { IsDrainable (at_closing state.old) }
-    requires readings { state.old.readings < 2 ^ 63 }
-    ensures ok { OnOk result ((steps : ℕ) × DrainsIn (at_closing state.old) steps
-        × (state.new ≡ next_closing_turn steps state.old)) }
+pub fn closing_turn<D: Disk>(state: &mut DurableState<D>) -> Result<TurnEnd, Broken>
+    requires drainable { IsDrainable (at_closing state.old.world) }
+    requires readings { state.old.world.readings < 2 ^ 63 }
+    ensures ok { OnOk result ((steps : ℕ) × DrainsIn (at_closing state.old.world) steps
+        × (state.new.world ≡ next_closing_turn steps state.old.world)) }
     ensures end { IfOk result (λ end. end ≡ Done) }
-    ensures err { OnErr result (IsPartDrained (at_closing state.old) state.new) }
-    ensures front { OnErr result (IsUnclosed state.old state.new) }
+    ensures err { OnErr result (IsPartDrained (at_closing state.old.world) state.new.world) }
+    ensures front { OnErr result (IsUnclosed state.old.world state.new.world) }
+    ensures disks { GoesAs D.seen D.is_image D.calls D.faults result state.old state.new }
 {
     read_next(state);
     drain(state)?;

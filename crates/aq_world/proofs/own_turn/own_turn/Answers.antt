@@ -6,49 +6,49 @@ use Rattle.aq_world.proofs.OwnTurns.{of_each, of_both, call_turn, call_end, park
 use Rattle.aq_world.proofs.own_turn.own_turn.Goals as goal
 
 pub call-requires : goal.call-requires
-call-requires c =
-    let w = c.args.state.now in
+call-requires g c =
+    let w = c.args.state.now.world in
     let i = c.args.at in
-    of_each (slice_get w.sessions i) (subst (λ n. OfSession i w (λ s. IsNext w i s n)) (c.in-Some-Call.is ∙ ap Some c.in-Some-Call.field-0-is) c.in_ok-effect.ensures) (λ s m. m.can)
+    of_each (slice_get w.sessions i) (subst (λ n. OfSession i w (λ s. IsNext w i s n)) (c.in-Some-Call.is ∙ ap Some c.in-Some-Call.field-0-is) (rw c.run.ensures at c.in_ok-effect.ensures)) (λ s m. m.can)
 
 pub returns-in_ok-call-in-Some-Call-clause-ok : goal.returns-in_ok-call-in-Some-Call-clause-ok
-returns-in_ok-call-in-Some-Call-clause-ok c =
-    let w = c.args.state.now in
+returns-in_ok-call-in-Some-Call-clause-ok g c =
+    let w = c.args.state.now.world in
     let i = c.args.at in
-    of_both (slice_get w.sessions i) (subst (λ n. OfSession i w (λ s. IsNext w i s n)) (c.in-Some-Call.is ∙ ap Some c.in-Some-Call.field-0-is) c.in_ok-effect.ensures) c.in_ok-call-in-Some-Call.ensures.ok (λ s m e. call_turn w i s c.call.new.self c.in-Some-Call.effect m e)
+    of_both (slice_get w.sessions i) (subst (λ n. OfSession i w (λ s. IsNext w i s n)) (c.in-Some-Call.is ∙ ap Some c.in-Some-Call.field-0-is) (rw c.run.ensures at c.in_ok-effect.ensures)) c.in_ok-call-in-Some-Call.ensures.ok (λ s m e. call_turn w i s c.call.new.self.world c.in-Some-Call.effect m e)
 
 pub returns-in_ok-call-in-Some-Call-clause-end : goal.returns-in_ok-call-in-Some-Call-clause-end
-returns-in_ok-call-in-Some-Call-clause-end c =
-    let w = c.args.state.now in
+returns-in_ok-call-in-Some-Call-clause-end g c =
+    let w = c.args.state.now.world in
     let i = c.args.at in
-    of_each (slice_get w.sessions i) (subst (λ n. OfSession i w (λ s. IsNext w i s n)) (c.in-Some-Call.is ∙ ap Some c.in-Some-Call.field-0-is) c.in_ok-effect.ensures) (λ s m. call_end w i s c.in-Some-Call.effect m)
+    of_each (slice_get w.sessions i) (subst (λ n. OfSession i w (λ s. IsNext w i s n)) (c.in-Some-Call.is ∙ ap Some c.in-Some-Call.field-0-is) (rw c.run.ensures at c.in_ok-effect.ensures)) (λ s m. call_end w i s c.in-Some-Call.effect m)
 
 pub park-requires : goal.park-requires
-park-requires c =
-    let w = c.args.state.now in
+park-requires g c =
+    let w = c.args.state.now.world in
     let i = c.args.at in
-    of_each (slice_get w.sessions i) (subst (λ n. OfSession i w (λ s. IsNext w i s n)) (c.in-Some-Wait.is ∙ ap Some c.in-Some-Wait.field-0-is) c.in_ok-effect.ensures) (λ s m. m.can)
+    of_each (slice_get w.sessions i) (subst (λ n. OfSession i w (λ s. IsNext w i s n)) (c.in-Some-Wait.is ∙ ap Some c.in-Some-Wait.field-0-is) (rw c.run.ensures at c.in_ok-effect.ensures)) (λ s m. m.can)
 
 pub returns-in_ok-park-in-Some-Wait-clause-ok : goal.returns-in_ok-park-in-Some-Wait-clause-ok
-returns-in_ok-park-in-Some-Wait-clause-ok c =
-    let w = c.args.state.now in
+returns-in_ok-park-in-Some-Wait-clause-ok g c =
+    let w = c.args.state.now.world in
     let i = c.args.at in
-    of_both (slice_get w.sessions i) (subst (λ n. OfSession i w (λ s. IsNext w i s n)) (c.in-Some-Wait.is ∙ ap Some c.in-Some-Wait.field-0-is) c.in_ok-effect.ensures) c.in_ok-park-in-Some-Wait.ensures.ok (λ s m e. park_turn w i s c.park.new.self c.in-Some-Wait.since m e)
+    of_both (slice_get w.sessions i) (subst (λ n. OfSession i w (λ s. IsNext w i s n)) (c.in-Some-Wait.is ∙ ap Some c.in-Some-Wait.field-0-is) (rw c.run.ensures at c.in_ok-effect.ensures)) c.in_ok-park-in-Some-Wait.ensures.ok (λ s m e. park_turn w i s c.park.new.self.world c.in-Some-Wait.since m e)
 
 pub returns-in_ok-park-in-Some-Wait-clause-end : goal.returns-in_ok-park-in-Some-Wait-clause-end
-returns-in_ok-park-in-Some-Wait-clause-end c =
-    let w = c.args.state.now in
+returns-in_ok-park-in-Some-Wait-clause-end g c =
+    let w = c.args.state.now.world in
     let i = c.args.at in
-    of_each (slice_get w.sessions i) (subst (λ n. OfSession i w (λ s. IsNext w i s n)) (c.in-Some-Wait.is ∙ ap Some c.in-Some-Wait.field-0-is) c.in_ok-effect.ensures) (λ s m. park_end w i s c.in-Some-Wait.since m)
+    of_each (slice_get w.sessions i) (subst (λ n. OfSession i w (λ s. IsNext w i s n)) (c.in-Some-Wait.is ∙ ap Some c.in-Some-Wait.field-0-is) (rw c.run.ensures at c.in_ok-effect.ensures)) (λ s m. park_end w i s c.in-Some-Wait.since m)
 
 pub returns-in_ok-end-in-None-clause-ok : goal.returns-in_ok-end-in-None-clause-ok
-returns-in_ok-end-in-None-clause-ok c =
-    let w = c.args.state.now in
+returns-in_ok-end-in-None-clause-ok g c =
+    let w = c.args.state.now.world in
     let i = c.args.at in
-    of_both (slice_get w.sessions i) (subst (λ n. OfSession i w (λ s. IsNext w i s n)) c.in-None.is c.in_ok-effect.ensures) c.in_ok-end-in-None.ensures.ok (λ s none e. end_turn w i s c.end.new.self none e)
+    of_both (slice_get w.sessions i) (subst (λ n. OfSession i w (λ s. IsNext w i s n)) c.in-None.is (rw c.run.ensures at c.in_ok-effect.ensures)) c.in_ok-end-in-None.ensures.ok (λ s none e. end_turn w i s c.end.new.self.world none e)
 
 pub returns-in_ok-end-in-None-clause-end : goal.returns-in_ok-end-in-None-clause-end
-returns-in_ok-end-in-None-clause-end c =
-    let w = c.args.state.now in
+returns-in_ok-end-in-None-clause-end g c =
+    let w = c.args.state.now.world in
     let i = c.args.at in
-    of_each (slice_get w.sessions i) (subst (λ n. OfSession i w (λ s. IsNext w i s n)) c.in-None.is c.in_ok-effect.ensures) (λ s none. end_end w i s none)
+    of_each (slice_get w.sessions i) (subst (λ n. OfSession i w (λ s. IsNext w i s n)) c.in-None.is (rw c.run.ensures at c.in_ok-effect.ensures)) (λ s none. end_end w i s none)
