@@ -1,6 +1,6 @@
 -- Turns of the world, whole and broken off.
-use Rattle.std.proofs.Common.{◌≡◌, ◌<◌, ◌⊎◌, inl, inr, ℕ, Bool, true, false, Option, Some, None, refl, sym, subst}
-use Rattle.std.specs.Prelude.{slice_get, is_some}
+use Rattle.std.proofs.Common.{◌≡◌, ◌<◌, ◌⊎◌, inl, inr, ℕ, Bool, true, false, Option, Some, None, Result, Ok, Err, refl, sym, subst}
+use Rattle.std.specs.Prelude.{slice_get, is_some, OnOk, IfErr}
 use Rattle.std.proofs.lemmas.Bool.{lt-ltb}
 use Rattle.queue_rows.specs.Session.{Session, Untold}
 use Rattle.run_laws.specs.World.{World, read_clock}
@@ -9,6 +9,10 @@ use Rattle.run_laws.specs.Serial.{next_session_turn, at_closing, next_closing_tu
 use Rattle.aq_world.specs.Turning.{next_turned, reads_clock, is_owed, IsBrokenOff, IsUndone, broken_if, IsOfRun, IsWhole}
 use Rattle.aq_world.specs.declared.turn_end.TurnEnd.{TurnEnd}
 use Rattle.aq_world.specs.declared.turn_end.TurnEnd.TheVariants as ends
+use Rattle.durable_state.specs.Held.{Held, HasFailed}
+use Rattle.durable_state.specs.declared.broken.Broken.{Broken}
+use Rattle.durable_state.specs.declared.broken.Broken.TheVariants as breaks
+use Rattle.aq_run.specs.Passing.{EndsBy}
 use Rattle.aq_run.specs.Rounds.{IsClosed}
 use Rattle.aq_world.proofs.OfRun.{of_run-refl, of_run-trans, of_run-along, of_run-read, of_run-begun, of_run-flushed, of_run-drained, of_run-session_turn, of_run-timer_turn, of_run-propagator_turn}
 
@@ -48,8 +52,8 @@ broken_by actor reading old new false broken = untold_run actor old new broken
 broken_run : (actor reading : ℕ) (old new : World) → IsBrokenOff actor reading old new → IsOfRun old new
 broken_run actor reading old new broken = broken_by actor reading old new (reads_clock actor old) broken
 
-pub turn_run : (actor : ℕ) (old new : World) (end : TurnEnd) → IsOfRun old (next_turned actor old) → (IsWhole end → new ≡ next_turned actor old)
-    → ((IsWhole end → ⊥) → (end ≡ ends.Memory) × IsBrokenOff actor (next_reading old) old new) → IsOfRun old new
+pub turn_run : {P : Type 0} (actor : ℕ) (old new : World) (end : TurnEnd) → IsOfRun old (next_turned actor old) → (IsWhole end → new ≡ next_turned actor old)
+    → ((IsWhole end → ⊥) → P × IsBrokenOff actor (next_reading old) old new) → IsOfRun old new
 turn_run actor old new end turned whole broken =
     by_end end (λ is. of_run-along old (next_turned actor old) new (whole is) turned) (λ no. broken_run actor (next_reading old) old new (broken no).1)
 
@@ -64,17 +68,10 @@ propagator_run old = of_run-propagator_turn (next_reading old) old
 
 -- ---- the closing turn
 
-pub no_whole : {P : Type 0} (end : TurnEnd) → (end ≡ ends.Done) ⊎ (end ≡ ends.Memory) → (end ≡ ends.Memory → P) → (IsWhole end → ⊥) → P
-no_whole end (inl done) memory never = absurd (never (subst IsWhole (sym done) _))
-no_whole end (inr broken) memory never = memory broken
-
-pub is_done : {P : Type 0} (end : TurnEnd) → (end ≡ ends.Done) ⊎ (end ≡ ends.Memory) → (end ≡ ends.Done → P) → IsWhole end → P
+pub is_done : {P : Type 0} (end : TurnEnd) → (end ≡ ends.Done) ⊎ ((end ≡ ends.Memory) ⊎ (end ≡ ends.Halted)) → (end ≡ ends.Done → P) → IsWhole end → P
 is_done end (inl done) whole is = whole done
-is_done end (inr broken) whole is = absurd (subst IsWhole broken is)
-
-pub either_end : {P : Type 0} (end : TurnEnd) → (end ≡ ends.Done) ⊎ (end ≡ ends.Memory) → (end ≡ ends.Done → P) → (end ≡ ends.Memory → P) → P
-either_end end (inl done) whole memory = whole done
-either_end end (inr broken) whole memory = memory broken
+is_done end (inr (inl broken)) whole is = absurd (subst IsWhole broken is)
+is_done end (inr (inr broken)) whole is = absurd (subst IsWhole broken is)
 
 closing_run : (steps : ℕ) (w : World) → IsOfRun w (next_closing_turn steps w)
 unfolding closing_turn
@@ -111,3 +108,16 @@ telling_none_some i (Some s) w e = telling_none i s s.untold w e
 pub telling_rests : (i : ℕ) (w : World) → is_owed (slice_get w.sessions i) ≡ false → telling_turn i w ≡ w
 unfolding telling_turn
 telling_rests i w e = telling_none_some i (slice_get w.sessions i) w e
+
+-- ---- failures
+
+-- a turn that came to its end saw none, and one that was halted did
+pub turn_ends : {T D : Type 0} (end : TurnEnd) (r : Result T Broken) (old new : Held D) → OnOk r (IsWhole end) → IfErr r (λ e. e ≡ breaks.Halted → end ≡ ends.Halted)
+    → (end ≡ ends.Halted → HasFailed new) → ((end ≡ ends.Halted → ⊥) → HasFailed new → HasFailed old) → EndsBy r old new
+turn_ends end (Ok x) old new whole halted failed fine = fine (λ e. subst IsWhole e whole)
+turn_ends end (Err e) old new whole halted failed fine = λ is. failed (halted is)
+
+-- and so do turns one after another
+pub ends_on : {T D : Type 0} (r : Result T Broken) (old mid new : Held D) → (HasFailed mid → HasFailed old) → EndsBy r mid new → EndsBy r old new
+ends_on (Ok x) old mid new before ends = λ failed. before (ends failed)
+ends_on (Err e) old mid new before ends = ends

@@ -1,7 +1,13 @@
+pub mod Answering
 pub mod Closing
 pub mod Fronts
+pub mod Leaving
+pub mod Passing
+pub mod Played
 pub mod Playing
 pub mod Progress
 pub mod Results
 pub mod Running
+pub mod Statuses
+pub mod Surviving
 pub mod Turning

@@ -1,10 +1,10 @@
 -- What the program answers.
-use Rattle.std.specs.Prelude.{◌≡◌, ◌≤◌, ◌⊎◌, ℕ, ◌++◌, ◌&&◌, List, [], ◌∷◌, length, take, codes, Bool, Option, Ok, Err, true, false}
-use Rattle.std.specs.Str.{bytes_eq}
+use Rattle.std.specs.Prelude.{◌≡◌, ◌≤◌, ◌⊎◌, ℕ, ◌++◌, ◌==◌, List, [], ◌∷◌, length, take, codes, Bool, Option, Result, Ok, Err, true, false, if◌then◌else◌}
 use Rattle.std.specs.Fmt.{decimal}
 use Rattle.std.specs.Io.KnownBytes.{Appends}
 use Rattle.aq_base.specs.Causes.{Rose}
 use Rattle.aq_base.specs.declared.DbId.{DbId}
+use Rattle.aq_base.specs.declared.DbId.TheVariants.{Home, Away}
 use Rattle.queue_rows.specs.Tables.{empty_tables}
 use Rattle.run_laws.specs.Serial.{IsSerial, IsSerialFront}
 use Rattle.run_laws.specs.Legal.{IsLegalHistory}
@@ -21,11 +21,20 @@ use Rattle.history_fates.specs.Durability.{ToldIsDurable}
 use Rattle.history_fates.specs.LegalFates.{all_fit}
 use Rattle.run_fates.specs.DurableRun.{ConfirmedIsSeen, CopiedIsDurable}
 use Rattle.script_text.specs.Script.{script}
+use Rattle.transcript.specs.Dump.{print_tables}
+use Rattle.transcript.specs.Print.{print}
+use Rattle.aq_world.specs.Mounting.{RecoversTo, IsRecovered, KeepsRecovered}
+use Rattle.aq_world.specs.declared.mount.MountCause.{MountCause}
+use Rattle.aq_world.specs.declared.mount.MountCause.TheVariants as causes
+use Rattle.durable_state.specs.declared.broken.Broken.{Broken}
+use Rattle.durable_state.specs.declared.broken.Broken.TheVariants as breaks
+use Rattle.aq_run.specs.Disks.{SurvivesCall, LeavesWhole, IsFirstDamaged, FailsEither, FailsNeither}
+use Rattle.aq_run.specs.declared.play.Played.{Played}
+use Rattle.aq_run.specs.declared.play.RunEnd.{RunEnd}
+use Rattle.aq_run.specs.declared.play.RunEnd.TheVariants as ends
+use Rattle.aq_run.specs.declared.outcome.Outcome.{Outcome}
 
--- the words ask for a serial run
-abbrev pub is_serial_run : List (List ℕ) → Bool
-is_serial_run (a ∷ b ∷ []) = bytes_eq a (codes "run") && bytes_eq b (codes "--serial")
-is_serial_run _ = false
+-- ---- texts
 
 -- what is told to words that are no command
 abbrev pub usage_text : List ℕ
@@ -35,9 +44,32 @@ usage_text = codes "usage: aqd run | run --serial | dump | compact | gen N S K |
 abbrev pub bad_line_text : ℕ → List ℕ
 bad_line_text line = codes "bad line " ++ decimal line ++ codes "\n"
 
--- the history of a run that did not begin
+abbrev pub db_name : DbId → List ℕ
+db_name Home = codes "home"
+db_name Away = codes "away"
+
+-- what is told of a disk that is damaged at this offset
+abbrev pub damaged_text : DbId → ℕ → List ℕ
+damaged_text db offset = codes "damaged " ++ db_name db ++ codes " " ++ decimal offset ++ codes "\n"
+
+-- the tables of both databases, home's first
+abbrev pub dump_text : Tables → Tables → List ℕ
+dump_text home away = print_tables Home home ++ print_tables Away away
+
+-- the history of a call that reached no run
 abbrev pub empty_history : History
 empty_history = record { home = empty_tables; away = empty_tables; opening = 0; scripts = []; entries = [] }
+
+-- ---- statuses
+
+-- all was done, or the sink failed as it was written
+abbrev pub IsRun : ℕ → Type 0
+IsRun status = (status ≡ 0) ⊎ (status ≡ 7)
+
+-- all was done, or: the words are no command, the input is no script, it could not be read, memory ran out, a disk failed, a disk is damaged,
+-- a write failed
+abbrev pub IsStatus : ℕ → Type 0
+IsStatus status = status ≤ 7
 
 -- ---- what is written
 
@@ -69,36 +101,106 @@ LegalHolds = (home away : Tables) (scripts : List SessionScript) (h : History) �
 
 -- ---- whose history it is
 
--- the history is that of the serial schedule of the scripts; it is legal, and calls all that they ask
-abbrev pub IsRunBy : List SessionScript → History → Type 0
-IsRunBy scripts history = IsSerial empty_tables empty_tables scripts history × IsLegalHistory empty_tables empty_tables scripts history × CallsAll history
+-- Over the tables that the disks recover, the history is that of the serial schedule of the scripts; it is legal, and calls all that they
+-- ask.
+pub record IsRunBy {D : Type 0} (seen : D → Option (List ℕ)) (home away : D) (scripts : List SessionScript) (h : History) : Type 0 where
+  pub home_is : RecoversTo seen home h.home
+  pub away_is : RecoversTo seen away h.away
+  pub serial : IsSerial h.home h.away scripts h
+  pub legal : IsLegalHistory h.home h.away scripts h
+  pub calls : CallsAll h
 
 -- the input is a script, and the history is its run
-abbrev pub IsRunOf : List ℕ → History → Type 0
-IsRunOf input history = (scripts : List SessionScript) × (script input ≡ Ok scripts) × IsRunBy scripts history
+abbrev pub IsRunOf : {D : Type 0} → (D → Option (List ℕ)) → D → D → History → List ℕ → Type 0
+IsRunOf seen home away h input = (scripts : List SessionScript) × (script input ≡ Ok scripts) × IsRunBy seen home away scripts h
 
--- the history is a first part of that of the serial schedule of the scripts; it is legal, and calls in order
-abbrev pub IsFrontBy : List SessionScript → History → Type 0
-IsFrontBy scripts history = IsSerialFront empty_tables empty_tables scripts history × IsLegalHistory empty_tables empty_tables scripts history × CallsInOrder history
+-- over those tables, the history is a first part of that of the serial schedule of the scripts; it is legal, and calls in order
+pub record IsFrontBy {D : Type 0} (seen : D → Option (List ℕ)) (home away : D) (scripts : List SessionScript) (h : History) : Type 0 where
+  pub home_is : RecoversTo seen home h.home
+  pub away_is : RecoversTo seen away h.away
+  pub serial : IsSerialFront h.home h.away scripts h
+  pub legal : IsLegalHistory h.home h.away scripts h
+  pub calls : CallsInOrder h
 
--- the input is a script, and the history is a first part of its run
-abbrev pub IsFrontOf : List ℕ → History → Type 0
-IsFrontOf input history = (scripts : List SessionScript) × (script input ≡ Ok scripts) × IsFrontBy scripts history
-
--- no run began, or the history is a first part of that of the input
-abbrev pub AnswersFront : List ℕ → History → Type 0
-AnswersFront input history = (history ≡ empty_history) ⊎ IsFrontOf input history
+-- no run began, or the input is a script and the history is a first part of its run
+abbrev pub AnswersFront : {D : Type 0} → (D → Option (List ℕ)) → D → D → History → List ℕ → Type 0
+AnswersFront seen home away h input = (h ≡ empty_history) ⊎ ((scripts : List SessionScript) × (script input ≡ Ok scripts) × IsFrontBy seen home away scripts h)
 
 -- the input is no script, and its first bad line is told
 abbrev pub AnswersBad : {S : Type 0} → (S → Option (List ℕ)) → (S → ℕ) → S → S → List ℕ → Type 0
 AnswersBad taken faults old new input = (line : ℕ) × (script input ≡ Err line) × Tells taken faults old new (bad_line_text line)
 
--- ---- statuses
+-- the disk that is damaged first is told, with the offset
+pub record AnswersDamaged {S D : Type 0} (taken : S → Option (List ℕ)) (sink_faults : S → ℕ) (old new : S) (seen : D → Option (List ℕ)) (home away : D) : Type 0 where
+  pub db : DbId
+  pub offset : ℕ
+  pub damaged : IsFirstDamaged seen home away db offset
+  pub told : Tells taken sink_faults old new (damaged_text db offset)
 
--- the history was printed, or the sink failed while it was
-abbrev pub IsRun : ℕ → Type 0
-IsRun status = (status ≡ 0) ⊎ (status ≡ 7)
+-- what is told of the cause: where a disk is damaged
+abbrev pub TellsCause : {S : Type 0} → (S → Option (List ℕ)) → (S → ℕ) → S → S → MountCause → Type 0
+TellsCause taken faults old new (causes.Damaged db offset) = Tells taken faults old new (damaged_text db offset)
+TellsCause taken faults old new (causes.Fault db) = ⊥
+TellsCause taken faults old new causes.Memory = ⊥
 
--- all was done, or: the words are no command, the input is no script, it could not be read, memory ran out, a write failed
-abbrev pub IsStatus : ℕ → Type 0
-IsStatus status = (status ≡ 0) ⊎ ((status ≡ 1) ⊎ ((status ≡ 2) ⊎ ((status ≡ 3) ⊎ ((status ≡ 4) ⊎ (status ≡ 7)))))
+-- the disks recover tables whose text has P
+pub record AnswersDump {D : Type 0} (seen : D → Option (List ℕ)) (home away : D) (P : List ℕ → Type 0) : Type 0 where
+  pub home_tables : Tables
+  pub away_tables : Tables
+  pub home_is : RecoversTo seen home home_tables
+  pub away_is : RecoversTo seen away away_tables
+  pub written : P (dump_text home_tables away_tables)
+
+-- ---- what is left of the disks
+
+-- A crash at any moment of the call: of a call that reached no run nothing is lost, and of a run nothing that was durable. The disks' counts
+-- of faults say why it is told that one failed, and that none did.
+pub record LeavesDisks {D : Type 0} (seen : D → Option (List ℕ)) (images : D → ℕ → List ℕ → Type 0) (calls faults : D → ℕ) (home away : D) (o : Outcome D) : Type 0 where
+  pub home_crash : (o.history ≡ empty_history) ⊎ SurvivesCall seen images calls Home home o.home o.history
+  pub away_crash : (o.history ≡ empty_history) ⊎ SurvivesCall seen images calls Away away o.away o.history
+  pub home_kept : o.history.entries ≡ [] → KeepsRecovered seen images calls home o.home
+  pub away_kept : o.history.entries ≡ [] → KeepsRecovered seen images calls away o.away
+  pub failed : o.status ≡ 5 → FailsEither faults home away o.home o.away
+  pub fine : (o.status ≡ 0) ⊎ ((o.status ≡ 6) ⊎ (o.status ≡ 7)) → FailsNeither faults home away o.home o.away
+
+-- ---- runs
+
+-- What a run answers, whatever script it is of: what is written, where it is damaged, and what is left of the disks.
+pub record AnswersRun {S D : Type 0} (taken : S → Option (List ℕ)) (sink_faults : S → ℕ) (seen : D → Option (List ℕ)) (images : D → ℕ → List ℕ → Type 0) (calls faults : D → ℕ) (old new : S) (home away : D) (o : Outcome D) : Type 0 where
+  pub whole : o.status ≡ 0 → Appends (taken old) (taken new) (print o.history)
+  pub part : (o.status ≡ 4) ⊎ (o.status ≡ 7) → WritesFront taken old new (print o.history)
+  pub at_fault : o.status ≡ 5 → Tells taken sink_faults old new (print o.history)
+  pub write_fault : o.status ≡ 7 → Rose (sink_faults old) (sink_faults new)
+  pub damaged : o.status ≡ 6 → AnswersDamaged taken sink_faults old new seen home away
+  pub recovered : IsRun o.status → IsRecovered seen home × IsRecovered seen away
+  pub empty : (o.status ≡ 2) ⊎ ((o.status ≡ 3) ⊎ (o.status ≡ 6)) → o.history ≡ empty_history
+  pub holds : HoldsOf o.history
+  pub disks : LeavesDisks seen images calls faults home away o
+  pub home_whole : IsRun o.status → LeavesWhole seen images calls Home home o.home o.history
+  pub away_whole : IsRun o.status → LeavesWhole seen images calls Away away o.away o.history
+
+-- how a run ended
+abbrev pub end_of : {T : Type 0} → Result T Broken → RunEnd
+end_of (Ok x) = ends.Whole
+end_of (Err breaks.Halted) = ends.Halted
+end_of (Err breaks.Memory) = ends.Memory
+
+-- what was played over the disks
+pub record PlaysOver {D : Type 0} (seen : D → Option (List ℕ)) (images : D → ℕ → List ℕ → Type 0) (calls faults : D → ℕ) (home away : D) (scripts : List SessionScript) (p : Played D) : Type 0 where
+  pub run : p.end ≡ ends.Whole → IsRunBy seen home away scripts p.history
+  pub front : IsFrontBy seen home away scripts p.history
+  pub holds : HoldsOf p.history
+  pub home_crash : SurvivesCall seen images calls Home home p.home p.history
+  pub away_crash : SurvivesCall seen images calls Away away p.away p.history
+  pub home_kept : p.history.entries ≡ [] → KeepsRecovered seen images calls home p.home
+  pub away_kept : p.history.entries ≡ [] → KeepsRecovered seen images calls away p.away
+  pub halted : p.end ≡ ends.Halted → FailsEither faults home away p.home p.away
+  pub fine : p.end ≡ ends.Whole → FailsNeither faults home away p.home p.away
+  pub home_whole : p.end ≡ ends.Whole → LeavesWhole seen images calls Home home p.home p.history
+  pub away_whole : p.end ≡ ends.Whole → LeavesWhole seen images calls Away away p.away p.history
+
+-- a run that came to its end has the status of its writing, one that was halted 5, one for which there was no memory 4
+abbrev pub status_of : RunEnd → ℕ → ℕ
+status_of ends.Whole written = written
+status_of ends.Halted written = if written == 4 then 4 else 5
+status_of ends.Memory written = 4

@@ -1,8 +1,15 @@
-//! The server: from words and bytes to bytes and a status.
+//! The server: from words, bytes and two disks to bytes and a status.
 #![tactic(auto)]
 
+mod command;
+mod dump;
+mod outcome;
 mod play;
 mod rounds;
+mod serial;
 mod top;
+mod unbegun;
+mod writing;
 
-pub use top::{Outcome, serve};
+pub use outcome::Outcome;
+pub use top::serve;

@@ -1,19 +1,22 @@
-// The serial run of scripts over empty databases.
-ghost use Rattle.std.specs.Prelude.{◌≡◌, true, All, IfOk};
+// The serial run of scripts over two disks.
+ghost use Rattle.std.specs.Prelude.{◌≡◌, IfOk, IfErr};
 ghost use Rattle.script_text.specs.Readable.{AreReadable};
-ghost use Rattle.run_state.specs.Entries.{HasNoCalls};
-ghost use Rattle.aq_run.specs.Serve.{HoldsOf, LegalHolds, IsRunBy, IsFrontBy};
+ghost use Rattle.aq_run.specs.Disks.{IsUnmounted};
+ghost use Rattle.aq_run.specs.Serve.{LegalHolds, PlaysOver, end_of};
 
 use crate::rounds::run;
-use aq_world::World;
+use aq_disk::Disk;
+use aq_world::{MountFault, World};
+use durable_state::{Broken, Finished};
 use payload_records::List;
 use queue_rows::{History, SessionScript};
 use run_fates::{
     legal_commits_fit, legal_confirms_seen, legal_copies_durable, legal_has_arrivals,
-    legal_has_fates, legal_is_durable_as_told, legal_sees_once,
+    legal_has_fates, legal_is_durable_as_told, legal_sees_once, serial_is_durable,
 };
-use run_turns::{legal_calls_in_order, serial_calls_all, serial_front_is_legal, serial_is_legal};
-use std::alloc::{AllocError, Global};
+use run_spellings::{legal_commits_spell, rules_are_texts, sound_is_spellable};
+use run_turns::{legal_calls_in_order, serial_calls_all, serial_front_is_legal};
+use std::alloc::Global;
 
 /// What the laws of legal histories say, together.
 pub fn legal_holds()
@@ -28,37 +31,72 @@ pub fn legal_holds()
     legal_copies_durable();
 }
 
-/// A run's history, and whether the run came to its end.
-#[derive(Drop)]
-pub struct Played {
-    /// What was done.
-    pub history: History,
-    /// Whether that is all of the run.
-    pub is_whole: bool,
+/// How a run ended.
+#[derive(Clone, Copy, Debug, PartialEq, Eq)]
+pub enum RunEnd {
+    /// All was done.
+    Whole,
+    /// A call on a disk failed.
+    Halted,
+    /// Memory ran out.
+    Memory,
 }
 
-/// The serial run of these scripts, whole or as far as there was memory; `Err` where there was none to begin with.
-pub fn play(alloc: Global, scripts: List<SessionScript>) -> Result<Played, AllocError>
+/// A run as far as it came, and the disks.
+#[derive(Drop)]
+pub struct Played<D> {
+    /// What was done.
+    pub history: History,
+    /// How it ended.
+    pub end: RunEnd,
+    /// The disk of the database home.
+    pub home: D,
+    /// The disk of the database away.
+    pub away: D,
+}
+
+fn end_of(run: Result<(), Broken>) -> RunEnd
+    ensures { result ≡ end_of run }
+{
+    match run {
+        Ok(()) => RunEnd::Whole,
+        Err(Broken::Halted) => RunEnd::Halted,
+        Err(Broken::Memory) => RunEnd::Memory,
+    }
+}
+
+/// The serial run of these scripts over the databases of two disks, as far as it came; `Err` where they were not mounted.
+pub fn play<D: Disk>(
+    alloc: Global,
+    scripts: List<SessionScript>,
+    home: D,
+    away: D,
+) -> Result<Played<D>, MountFault<D>>
     requires { AreReadable scripts }
-    ensures run { IfOk result (λ p. p.is_whole ≡ true → IsRunBy scripts p.history) }
-    ensures first { IfOk result (λ p. IsFrontBy scripts p.history) }
-    ensures holds { IfOk result (λ p. HoldsOf p.history) }
-    ensures calls { IfOk result (λ p. All HasNoCalls p.history.entries) }
+    ensures played { IfOk result (λ p.
+        PlaysOver D.seen D.is_image D.calls D.faults home away scripts p) }
+    ensures unmounted { IfErr result (λ e.
+        IsUnmounted D.seen D.is_image D.calls D.faults home away e) }
 {
     legal_holds();
-    serial_is_legal();
+    sound_is_spellable();
+    legal_commits_spell();
+    serial_is_durable();
     serial_calls_all();
     serial_front_is_legal();
     legal_calls_in_order();
-    let mut world = World::mount(alloc, scripts)?;
-    match run(&mut world) {
-        Ok(()) => Ok(Played {
-            history: world.finish(),
-            is_whole: true,
-        }),
-        Err(AllocError) => Ok(Played {
-            history: world.finish(),
-            is_whole: false,
-        }),
-    }
+    rules_are_texts(&scripts);
+    let mut world = World::mount(alloc, home, away, scripts)?;
+    let end = end_of(run(&mut world));
+    let Finished {
+        history,
+        home,
+        away,
+    } = world.finish();
+    Ok(Played {
+        history,
+        end,
+        home,
+        away,
+    })
 }

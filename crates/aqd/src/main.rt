@@ -1,12 +1,18 @@
-//! The program: it makes the words, the input and the output, calls the server, and ends with its status.
+//! The program: it makes the words, the input, the output and the two disks, calls the server, and ends with its status.
 #![tactic(auto)]
 
 use aq_base::{ReaderSource, Words, WriterSink};
+use aq_disk::FileDisk;
 use aq_run::serve;
 use std::alloc::{AllocError, Global};
 use std::env::{Env, FillError};
 use std::io;
 use std::process::ExitCode;
+
+/// The files of the two databases, in the current folder.
+const HOME_FILE: &str = "home.aq";
+
+const AWAY_FILE: &str = "away.aq";
 
 /// The lengths that are tried for an argument, as powers of two: the last is longer than any system passes.
 const FIRST_POWER: u32 = 8;
@@ -45,13 +51,24 @@ fn words(alloc: Global, rt: &HostRuntime) -> Result<Words, AllocError> {
     Words::of_arguments(alloc, &arguments(alloc, rt)?)
 }
 
+/// The file of that name as a disk. It is not opened yet.
+fn disk(rt: &HostRuntime, name: &str) -> Result<FileDisk<HostRuntime>, AllocError> {
+    FileDisk::at(rt.clone()?, rt.alloc(), name)
+}
+
 fn main(rt: HostRuntime) -> ExitCode {
     let alloc = rt.alloc();
     let Ok(words) = words(alloc, &rt) else {
         return ExitCode::from(4);
     };
+    let Ok(home) = disk(&rt, HOME_FILE) else {
+        return ExitCode::from(4);
+    };
+    let Ok(away) = disk(&rt, AWAY_FILE) else {
+        return ExitCode::from(4);
+    };
     let mut input = ReaderSource::of(rt.reader());
     let mut out = WriterSink::of(io::writer(&rt));
-    let outcome = serve(alloc, &words, &mut input, &mut out);
+    let outcome = serve(alloc, &words, &mut input, &mut out, home, away);
     ExitCode::from(outcome.status)
 }

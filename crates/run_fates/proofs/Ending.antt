@@ -79,7 +79,7 @@ module _ (home away : Tables) (scripts : List SessionScript) (b : MayBegin home 
       let d = counted.durable_is in
       let lhs : made db end.entries ≡ made db h.entries = ap (made db) (sym s.turns.entries_are) ∙ made_uncounted db h.entries in
       let rhs : durable db end.entries ≡ durable db h.entries =
-          ap (durable db) (sym s.turns.entries_are) ∙ ap (made db) (until_uncounted h.entries) ∙ made_uncounted db (until_flush h.entries) in
+      ap (durable db) (sym s.turns.entries_are) ∙ ap (made db) (until_uncounted h.entries) ∙ made_uncounted db (until_flush h.entries) in
       omega (arith, all, m, d, lhs, rhs)
 
 pub serial_is_durable : (home away : Tables) (scripts : List SessionScript) (h : History) → MayBegin home away scripts → IsSerial home away scripts h → (db : DbId) → made db h.entries ≤ durable db h.entries

@@ -1,5 +1,9 @@
-//! Tests of the server as a whole, from words and bytes to bytes and a status.
+//! Tests of the server as a whole, from words, bytes and disks to bytes and a status.
 #![tactic(auto)]
 
+#[cfg(test)]
+mod disks;
+#[cfg(test)]
+mod fixtures;
 #[cfg(test)]
 mod serving;

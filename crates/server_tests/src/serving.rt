@@ -1,16 +1,17 @@
 // The server over sources and sinks in memory: that it does not want memory where there is enough, and what failing devices are told.
-use aq_base::{MemorySink, MemorySource, Words};
-use aq_run::serve;
-use std::alloc::{AllocError, Global};
+use crate::fixtures::{DUMP, SERIAL, served_by};
+use aq_base::{MemorySink, MemorySource};
 use std::process::Abort;
 use std::test::Fail;
-
-const SERIAL: &[&str] = &["run", "--serial"];
 
 const USAGE: &str = "usage: aqd run | run --serial | dump | compact | gen N S K | audit\n";
 
 const ONE_TABLE: &str = "{\"session\":\"s1\",\"at\":\"home\"}
 {\"s\":\"s1\",\"do\":\"create-table\",\"table\":\"t\",\"fields\":{\"qty\":\"num\"}}
+";
+
+const NO_TABLES: &str = "database home next 1 transaction 1 latest 0
+database away next 1 transaction 1 latest 0
 ";
 
 const ONE_TABLE_TEXT: &str = "s1.1 create-table ok\ns1 end\n";
@@ -53,14 +54,6 @@ const CUT_OFF: Devices = Devices {
     room: None,
 };
 
-fn words_of(alloc: Global, list: &[&str]) -> Result<Words, AllocError> {
-    let mut words = Words::new(alloc);
-    for word in list {
-        words.push(word)?;
-    }
-    Ok(words)
-}
-
 fn check(
     rt: &(impl Abort + AllocGlobal),
     devices: Devices,
@@ -73,8 +66,8 @@ fn check(
     let bytes = input.as_bytes().to_vec(alloc)?;
     let mut source = MemorySource::of(bytes, devices.reads.to_vec(alloc)?);
     let mut sink = MemorySink::of(alloc, devices.writes.to_vec(alloc)?, devices.room);
-    let outcome = serve(alloc, &words_of(alloc, words)?, &mut source, &mut sink);
-    assert_eq!(rt; outcome.status, status, "{input}");
+    let answer = served_by(alloc, words, &mut source, &mut sink)?;
+    assert_eq!(rt; answer, status, "{input}");
     assert_eq!(rt; sink.taken(), text.as_bytes(), "{input}");
     Ok(())
 }
@@ -83,7 +76,8 @@ fn check(
 #[test]
 fn memory_is_not_wanting_where_there_is_enough(rt: HostRuntime) -> Result<(), Fail> {
     check(&rt, WORKING, SERIAL, ONE_TABLE, 0, ONE_TABLE_TEXT)?;
-    check(&rt, WORKING, SERIAL, "{}", 2, "bad line 1\n")
+    check(&rt, WORKING, SERIAL, "{}", 2, "bad line 1\n")?;
+    check(&rt, WORKING, DUMP, "", 0, NO_TABLES)
 }
 
 #[test]
@@ -104,5 +98,6 @@ fn failing_sinks_are_told(rt: HostRuntime) -> Result<(), Fail> {
     check(&rt, NARROW, SERIAL, ONE_TABLE, 7, "s1.1 creat")?;
     check(&rt, CLOSED, SERIAL, ONE_TABLE, 7, "")?;
     check(&rt, CLOSED, SERIAL, "", 0, "")?;
-    check(&rt, NARROW, SERIAL, "{}", 2, "bad line 1")
+    check(&rt, NARROW, SERIAL, "{}", 2, "bad line 1")?;
+    check(&rt, NARROW, DUMP, "", 7, "database h")
 }

@@ -1,51 +1,57 @@
 use Rattle.std.proofs.Common.{◌≡◌, true, false, sym, ◌∙◌}
 use Rattle.run_laws.specs.Turns.{any_live}
-use Rattle.aq_world.proofs.OfRun.{of_run-refl, of_run-trans}
+use Rattle.aq_run.proofs.Closing.{ends_on}
+use Rattle.aq_run.proofs.Passing.{passes-refl, passes-trans}
 use Rattle.aq_run.proofs.Results.{on_err, ok_from, err_from}
 use Rattle.aq_run.proofs.Running.{after_none, after_next, way_in_round, way_in_closing, whole_way, on_time, on_time_next, few_so_far, few_in_all, left_less}
 use Rattle.aq_run.proofs.rounds.run.Goals as goal
 
 pub loop-world-init : goal.loop-world-init
-loop-world-init c = record {
-  after = after_none c.args.world.now;
-  time = on_time c.args.world.now c.requires.readings c.requires.at c.requires.told c.requires.scripts.within;
-  run = of_run-refl c.args.world.now;
+loop-world-init g c = record {
+  after = after_none c.args.world.now.world;
+  time = on_time c.args.world.now.world c.requires.readings c.requires.at c.requires.told c.requires.scripts.within;
+  passes = passes-refl g.D.Disk.seen g.D.Disk.is_image g.D.Disk.calls g.D.Disk.faults c.args.world.now;
+  fine = λ failed. failed;
 }
 
 pub round-requires : goal.round-requires
-round-requires c = record { readings = few_so_far c.loop-world.world c.loop-world.invariant.time (sym c.any_live.ensures ∙ c.loop-world-test.true) }
+round-requires g c = record { readings = few_so_far c.loop-world.world.world c.loop-world.invariant.time (sym c.any_live.ensures ∙ c.loop-world-test.true) }
 
 pub loop-world-preserved : goal.loop-world-preserved
-loop-world-preserved c =
-    let live : any_live c.loop-world.world ≡ true = sym c.any_live.ensures ∙ c.loop-world-test.true in
+loop-world-preserved g c =
+    let live : any_live c.loop-world.world.world ≡ true = sym c.any_live.ensures ∙ c.loop-world-test.true in
     record {
-      after = after_next c.args.world.now c.loop-world.world c.round.new.world c.loop-world.invariant.after c.in_ok-round.ensures.world;
-      time = on_time_next c.loop-world.world c.round.new.world c.loop-world.invariant.time live c.round.ensures.few c.in_ok-round.ensures.world;
-      run = of_run-trans c.args.world.now c.loop-world.world c.round.new.world c.loop-world.invariant.run c.round.ensures.run;
+      after = after_next c.args.world.now.world c.loop-world.world.world c.round.new.world.world c.loop-world.invariant.after c.in_ok-round.ensures.world;
+      time = on_time_next c.loop-world.world.world c.round.new.world.world c.loop-world.invariant.time live c.round.ensures.few c.in_ok-round.ensures.world;
+      passes = passes-trans g.D.Disk.seen g.D.Disk.is_image g.D.Disk.calls g.D.Disk.faults c.args.world.now c.loop-world.world c.round.new.world c.loop-world.invariant.passes c.round.ensures.passes;
+      fine = λ failed. c.loop-world.invariant.fine (c.in_ok-round.ensures.ends failed);
     }
 
 pub loop-world-smaller : goal.loop-world-smaller
-loop-world-smaller c = left_less c.loop-world.world c.round.new.world c.loop-world.invariant.time (sym c.any_live.ensures ∙ c.loop-world-test.true) c.in_ok-round.ensures.world
+loop-world-smaller g c = left_less c.loop-world.world.world c.round.new.world.world c.loop-world.invariant.time (sym c.any_live.ensures ∙ c.loop-world-test.true) c.in_ok-round.ensures.world
 
 pub returns-in_err-round-clause-front : goal.returns-in_err-round-clause-front
-returns-in_err-round-clause-front c =
-    on_err c.from_residual.result (way_in_round c.args.world.now c.loop-world.world c.round.new.world.entries c.loop-world.invariant.after c.in_err-round.ensures.front)
+returns-in_err-round-clause-front g c =
+    on_err c.from_residual.result (way_in_round c.args.world.now.world c.loop-world.world.world c.round.new.world.world.entries c.loop-world.invariant.after c.in_err-round.ensures.front)
 
-pub returns-in_err-round-clause-run : goal.returns-in_err-round-clause-run
-returns-in_err-round-clause-run c = of_run-trans c.args.world.now c.loop-world.world c.round.new.world c.loop-world.invariant.run c.round.ensures.run
+pub returns-in_err-round-clause-passes : goal.returns-in_err-round-clause-passes
+returns-in_err-round-clause-passes g c = passes-trans g.D.Disk.seen g.D.Disk.is_image g.D.Disk.calls g.D.Disk.faults c.args.world.now c.loop-world.world c.round.new.world c.loop-world.invariant.passes c.round.ensures.passes
 
 pub close-requires : goal.close-requires
-close-requires c = record { readings = few_in_all c.loop-world.world c.loop-world.invariant.time }
+close-requires g c = record { readings = few_in_all c.loop-world.world.world c.loop-world.invariant.time }
 
 pub returns-clause-whole : goal.returns-clause-whole
-returns-clause-whole c =
-    let over : any_live c.loop-world.world ≡ false = sym c.any_live.ensures ∙ c.loop-world-test.false in
-    ok_from c.close.result c.close.ensures.world (whole_way c.args.world.now c.loop-world.world c.close.new.world c.loop-world.invariant.after over)
+returns-clause-whole g c =
+    let over : any_live c.loop-world.world.world ≡ false = sym c.any_live.ensures ∙ c.loop-world-test.false in
+    ok_from c.close.result c.close.ensures.world (whole_way c.args.world.now.world c.loop-world.world.world c.close.new.world.world c.loop-world.invariant.after over)
 
 pub returns-clause-front : goal.returns-clause-front
-returns-clause-front c =
-    let over : any_live c.loop-world.world ≡ false = sym c.any_live.ensures ∙ c.loop-world-test.false in
-    err_from c.close.result c.close.ensures.front (way_in_closing c.args.world.now c.loop-world.world c.close.new.world c.loop-world.invariant.after over)
+returns-clause-front g c =
+    let over : any_live c.loop-world.world.world ≡ false = sym c.any_live.ensures ∙ c.loop-world-test.false in
+    err_from c.close.result c.close.ensures.front (way_in_closing c.args.world.now.world c.loop-world.world.world c.close.new.world.world c.loop-world.invariant.after over)
 
-pub returns-clause-run : goal.returns-clause-run
-returns-clause-run c = of_run-trans c.args.world.now c.loop-world.world c.close.new.world c.loop-world.invariant.run c.close.ensures.run
+pub returns-clause-passes : goal.returns-clause-passes
+returns-clause-passes g c = passes-trans g.D.Disk.seen g.D.Disk.is_image g.D.Disk.calls g.D.Disk.faults c.args.world.now c.loop-world.world c.close.new.world c.loop-world.invariant.passes c.close.ensures.passes
+
+pub returns-clause-ends : goal.returns-clause-ends
+returns-clause-ends g c = ends_on c.close.result c.args.world.now c.loop-world.world c.close.new.world c.loop-world.invariant.fine c.close.ensures.ends

@@ -1,11 +1,13 @@
 use Rattle.std.proofs.Common.{◌≡◌}
 use Rattle.run_laws.specs.Serial.{each}
 use Rattle.run_laws.specs.Turns.{telling_turn}
-use Rattle.aq_world.specs.Turning.{IsOfRun}
+use Rattle.durable_state.specs.Held.{HasFailed}
+use Rattle.aq_run.specs.Passing.{Passes}
 use Rattle.aq_run.proofs.rounds.telling_turns.Given as goal
 
 abbrev pub invariant-loop-session : goal.invariant-loop-session
-invariant-loop-session l = record {
-  world : l.world ≡ each telling_turn l.session l.fn.world;
-  run : IsOfRun l.fn.world l.world;
+invariant-loop-session g l = record {
+  world : l.world.world ≡ each telling_turn l.session l.fn.world.world;
+  passes : Passes g.D.Disk.seen g.D.Disk.is_image g.D.Disk.calls g.D.Disk.faults l.fn.world l.world;
+  fine : HasFailed l.world → HasFailed l.fn.world;
 }

@@ -1,0 +1,105 @@
+// What is written: histories, tables, and what is told of a call that reached no run.
+ghost use Rattle.std.specs.Prelude.{◌≡◌, ◌⊎◌, IfOk, OnOk, OnErr};
+ghost use Rattle.std.specs.Io.KnownBytes.{Appends};
+ghost use Rattle.aq_base.specs.Causes.{Rose};
+ghost use Rattle.transcript.specs.Print.{print};
+ghost use Rattle.aq_run.specs.Serve.{bad_line_text, damaged_text, db_name, dump_text, IsRun, Tells, WritesFront};
+
+use aq_base::{DbId, Sink, write_all};
+use queue_rows::{History, Tables};
+use std::alloc::{AllocError, Global};
+use transcript::{print, print_tables};
+
+/// Writes a text as far as the sink takes it.
+pub fn tell<O: Sink>(out: &mut O, text: &[u8])
+    ensures { Tells O.taken O.faults out.old out.new text.now }
+{
+    let _ = write_all(out, text);
+}
+
+/// Tells the first bad line, as far as the sink takes it.
+pub fn tell_bad<O: Sink>(alloc: Global, out: &mut O, line: u64) -> Result<(), AllocError>
+    ensures told { OnOk result (Tells O.taken O.faults out.old out.new (bad_line_text line)) }
+    ensures nothing { OnErr result (O.taken out.new ≡ O.taken out.old) }
+{
+    let text = format!(in alloc; "bad line {line}\n")?;
+    tell(out, text.as_bytes());
+    Ok(())
+}
+
+fn name_of(db: DbId) -> &'static str
+    ensures { result.now ≡ db_name db }
+{
+    match db {
+        DbId::Home => "home",
+        DbId::Away => "away",
+    }
+}
+
+/// Tells where a disk is damaged, as far as the sink takes it.
+pub fn tell_damaged<O: Sink>(
+    alloc: Global,
+    out: &mut O,
+    db: DbId,
+    offset: u64,
+) -> Result<(), AllocError>
+    ensures told { OnOk result (Tells O.taken O.faults out.old out.new (damaged_text db offset)) }
+    ensures nothing { OnErr result (O.taken out.new ≡ O.taken out.old) }
+{
+    let name = name_of(db);
+    let text = format!(in alloc; "damaged {name} {offset}\n")?;
+    tell(out, text.as_bytes());
+    Ok(())
+}
+
+/// Writes a text as far as the sink takes it. The answer is the status of a call that has nothing else to do.
+fn write<O: Sink>(out: &mut O, text: &[u8]) -> u8
+    ensures known { IsRun result }
+    ensures whole { result ≡ 0 → Appends (O.taken out.old) (O.taken out.new) text.now }
+    ensures front { WritesFront O.taken out.old out.new text.now }
+    ensures fault { result ≡ 7 → Rose (O.faults out.old) (O.faults out.new) }
+    ensures told { Tells O.taken O.faults out.old out.new text.now }
+{
+    match write_all(out, text) {
+        Ok(()) => 0,
+        Err(_) => 7,
+    }
+}
+
+/// Prints a history as far as the sink takes it. The answer is the status of a run that came to its end.
+pub fn show<O: Sink>(alloc: Global, out: &mut O, history: &History) -> u8
+    ensures known { IsRun result ⊎ (result ≡ 4) }
+    ensures whole { result ≡ 0 → Appends (O.taken out.old) (O.taken out.new) (print history.now) }
+    ensures front { WritesFront O.taken out.old out.new (print history.now) }
+    ensures fault { result ≡ 7 → Rose (O.faults out.old) (O.faults out.new) }
+    ensures told { (result ≡ 4) ⊎ Tells O.taken O.faults out.old out.new (print history.now) }
+{
+    match print(alloc, history) {
+        Ok(text) => write(out, &text),
+        Err(AllocError) => 4,
+    }
+}
+
+/// The tables of both databases.
+fn dump_text(alloc: Global, home: &Tables, away: &Tables) -> Result<Vec<u8>, AllocError>
+    ensures { IfOk result (λ text. text.items ≡ dump_text home.now away.now) }
+{
+    let mut text = print_tables(alloc, DbId::Home, home)?;
+    text.extend_from_slice(&print_tables(alloc, DbId::Away, away)?)?;
+    Ok(text)
+}
+
+/// Prints the tables of both databases, as far as the sink takes them. Where there is no memory nothing is written.
+pub fn show_tables<O: Sink>(alloc: Global, out: &mut O, home: &Tables, away: &Tables) -> u8
+    ensures known { IsRun result ⊎ (result ≡ 4) }
+    ensures whole { result ≡ 0
+        → Appends (O.taken out.old) (O.taken out.new) (dump_text home.now away.now) }
+    ensures front { result ≡ 7 → WritesFront O.taken out.old out.new (dump_text home.now away.now) }
+    ensures fault { result ≡ 7 → Rose (O.faults out.old) (O.faults out.new) }
+    ensures nothing { result ≡ 4 → O.taken out.new ≡ O.taken out.old }
+{
+    match dump_text(alloc, home, away) {
+        Ok(text) => write(out, &text),
+        Err(AllocError) => 4,
+    }
+}
