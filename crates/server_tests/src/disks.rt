@@ -1,6 +1,6 @@
 // The server over disks in memory: what a run finds that an earlier one left, what damaged and failing disks are told, and what a crash leaves
 // where a disk fails.
-use crate::fixtures::{DUMP, SERIAL, Served, disk, served};
+use crate::fixtures::{DUMP, SERIAL, Served, call_over, disk};
 use aq_disk::{Disk, Fill, MemoryDisk};
 use aq_run::Outcome;
 use std::alloc::{AllocError, Global};
@@ -36,7 +36,7 @@ const CUT: &[u8] = b"\x01A";
 const ENDS: &[u8] = b"\x01AQJRNL\0\0\0\0\0\0\0\0\x18\0\0\0\0\0\0\0\0\0\0\0\x02\x01";
 
 fn run(alloc: Global, home: MemoryDisk, away: MemoryDisk) -> Result<Served, AllocError> {
-    served(alloc, SERIAL, SCRIPT, home, away)
+    call_over(alloc, SERIAL, SCRIPT, home, away)
 }
 
 // A run over empty disks, of which the calls of these numbers fail.
@@ -44,12 +44,21 @@ fn first_run(alloc: Global, home: &[u64], away: &[u64]) -> Result<Served, AllocE
     run(alloc, disk(alloc, EMPTY, home)?, disk(alloc, EMPTY, away)?)
 }
 
+fn again(alloc: Global, first: Outcome<MemoryDisk>) -> Result<Served, AllocError> {
+    let Outcome {
+        status: _,
+        history: _,
+        home,
+        away,
+    } = first;
+    run(alloc, home, away)
+}
+
 #[test]
 fn a_run_goes_on_from_what_an_earlier_one_left(rt: HostRuntime) -> Result<(), Fail> {
-    let first = first_run(rt.alloc(), &[], &[])?;
-    let is_done = first.is(0, ONCE);
-    let Outcome { home, away, .. } = first.outcome;
-    let second = run(rt.alloc(), home, away)?;
+    let Served { outcome, sink } = first_run(rt.alloc(), &[], &[])?;
+    let is_done = outcome.status == 0 && sink.taken() == ONCE.as_bytes();
+    let second = again(rt.alloc(), outcome)?;
     assert!(rt; is_done && second.is(0, AGAIN));
     Ok(())
 }
@@ -92,7 +101,7 @@ const CASES: &[Case] = &[
 fn is_told(alloc: Global, words: &[&str], case: &Case) -> Result<bool, AllocError> {
     let home = disk(alloc, case.home.0, case.home.1)?;
     let away = disk(alloc, case.away.0, case.away.1)?;
-    let answer = served(alloc, words, SCRIPT, home, away)?;
+    let answer = call_over(alloc, words, SCRIPT, home, away)?;
     Ok(answer.is(case.status, case.text))
 }
 
@@ -105,25 +114,25 @@ fn damaged_and_failing_disks_are_told(rt: HostRuntime) -> Result<(), Fail> {
     Ok(())
 }
 
-// What the dump has of each statement of the script that was told.
-const MARKS: &[&[u8]] = &[
-    b"table t fields",
-    b"queue q table t normal",
-    b"enqueue on dequeue on",
-    b"message h1 queue q",
+// What is told of each statement of the script, and what the dump has of it.
+const TOLD: &[(&str, &str)] = &[
+    ("create-table ok", "table t fields"),
+    ("create-queue ok", "queue q table t normal"),
+    ("start-queue ok", "enqueue on dequeue on"),
+    ("enqueue ok", "message h1 queue q"),
 ];
 
-fn count(text: &[u8], part: &[u8]) -> usize {
-    text.windows(part.len()).filter(|at| *at == part).count()
+fn has_what_was_told(told: &str, dump: &str) -> bool {
+    for (line, row) in TOLD {
+        if told.contains(*line) && !dump.contains(*row) {
+            return false;
+        }
+    }
+    true
 }
 
-// How many statements were told.
-fn told(text: &[u8]) -> usize {
-    count(text, b" ok")
-}
-
-fn has_marks(dump: &[u8], told: usize) -> bool {
-    MARKS.iter().take(told).all(|mark| count(dump, mark) > 0)
+fn text_of(served: &Served) -> &str {
+    str::from_utf8(served.sink.taken()).unwrap_or("")
 }
 
 // The disk as a crash leaves it now, with what was not synced filled so.
@@ -136,8 +145,8 @@ fn left(alloc: Global, disk: &MemoryDisk, fill: Fill) -> Result<MemoryDisk, Allo
 fn keeps(alloc: Global, run: &Served, fill: Fill) -> Result<bool, AllocError> {
     let home = left(alloc, &run.outcome.home, fill)?;
     let away = left(alloc, &run.outcome.away, fill)?;
-    let dump = served(alloc, DUMP, "", home, away)?;
-    Ok(dump.outcome.status == 0 && has_marks(dump.sink.taken(), told(run.sink.taken())))
+    let dump = call_over(alloc, DUMP, "", home, away)?;
+    Ok(dump.outcome.status == 0 && has_what_was_told(text_of(run), text_of(&dump)))
 }
 
 fn keeps_all(alloc: Global, run: &Served) -> Result<bool, AllocError> {

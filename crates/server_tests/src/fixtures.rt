@@ -37,7 +37,7 @@ impl Served {
 }
 
 /// Calls the server over these disks, with an input and an output that work.
-pub fn served(
+pub fn call_over(
     alloc: Global,
     words: &[&str],
     input: &str,
@@ -53,7 +53,7 @@ pub fn served(
 }
 
 /// The same over empty disks, with this input and this output.
-pub fn served_by(
+pub fn status_by(
     alloc: Global,
     words: &[&str],
     source: &mut MemorySource,

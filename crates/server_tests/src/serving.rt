@@ -1,5 +1,5 @@
 // The server over sources and sinks in memory: that it does not want memory where there is enough, and what failing devices are told.
-use crate::fixtures::{DUMP, SERIAL, served_by};
+use crate::fixtures::{DUMP, SERIAL, status_by};
 use aq_base::{MemorySink, MemorySource};
 use std::process::Abort;
 use std::test::Fail;
@@ -66,7 +66,7 @@ fn check(
     let bytes = input.as_bytes().to_vec(alloc)?;
     let mut source = MemorySource::of(bytes, devices.reads.to_vec(alloc)?);
     let mut sink = MemorySink::of(alloc, devices.writes.to_vec(alloc)?, devices.room);
-    let answer = served_by(alloc, words, &mut source, &mut sink)?;
+    let answer = status_by(alloc, words, &mut source, &mut sink)?;
     assert_eq!(rt; answer, status, "{input}");
     assert_eq!(rt; sink.taken(), text.as_bytes(), "{input}");
     Ok(())
