@@ -1,5 +1,5 @@
 -- Turns of the world, whole and broken off.
-use Rattle.std.proofs.Common.{◌≡◌, ◌<◌, ◌⊎◌, inl, inr, ℕ, Bool, true, false, Option, Some, None, Result, Ok, Err, refl, sym, subst}
+use Rattle.std.proofs.Common.{◌≡◌, ◌<◌, ◌⊎◌, inl, inr, ℕ, Bool, true, false, Option, Some, None, Result, Ok, Err, refl, subst}
 use Rattle.std.specs.Prelude.{slice_get, is_some, OnOk, IfErr}
 use Rattle.std.proofs.lemmas.Bool.{lt-ltb}
 use Rattle.queue_rows.specs.Session.{Session, Untold}

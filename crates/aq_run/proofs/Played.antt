@@ -1,6 +1,6 @@
 -- What was played over the disks.
-use Rattle.std.proofs.Common.{◌≡◌, ◌⊎◌, inl, inr, ◌≤◌, ℕ, List, [], Option, Some, None, Result, Ok, Err, refl, sym, ap, subst, ◌∙◌, map}
-use Rattle.std.specs.Prelude.{IsSome, OnOk, OnErr, true}
+use Rattle.std.proofs.Common.{◌≡◌, inl, inr, ◌≤◌, ℕ, List, Option, Some, None, Result, Ok, Err, refl, sym, subst, map}
+use Rattle.std.specs.Prelude.{OnOk, OnErr, true}
 use Rattle.aq_base.specs.declared.DbId.{DbId}
 use Rattle.aq_base.specs.declared.DbId.TheVariants.{Home, Away}
 use Rattle.queue_rows.specs.World.{uncounted}
@@ -19,16 +19,15 @@ use Rattle.run_spellings.specs.SpellingLaws.{LegalCommitsSpell, SoundIsSpellable
 use Rattle.run_state.specs.Entries.{BeginsAs}
 use Rattle.commit_log.specs.Logged.{AreLoggable}
 use Rattle.durable_state.specs.Held.{Held, HasFailed}
-use Rattle.durable_state.specs.Survival.{Begun, Survives}
+use Rattle.durable_state.specs.Survival.{Survives}
 use Rattle.durable_state.specs.declared.broken.Broken.{Broken}
 use Rattle.durable_state.specs.declared.broken.Broken.TheVariants as breaks
-use Rattle.aq_world.specs.Mounting.{RecoversTo, KeepsRecovered}
+use Rattle.aq_world.specs.Mounting.{RecoversTo}
 use Rattle.aq_world.specs.Sound.{IsRunning}
 use Rattle.aq_run.specs.Disks.{SurvivesCall, LeavesWhole, FailsEither, FailsNeither}
 use Rattle.aq_run.specs.Passing.{Passes, EndsBy}
 use Rattle.aq_run.specs.Rounds.{HasRun}
-use Rattle.aq_run.specs.Serve.{HoldsOf, LegalHolds, IsRunBy, IsFrontBy, PlaysOver, end_of}
-use Rattle.aq_run.specs.declared.play.Played.{Played}
+use Rattle.aq_run.specs.Serve.{LegalHolds, PlaysOver, end_of}
 use Rattle.aq_run.specs.declared.play.RunEnd.{RunEnd}
 use Rattle.aq_run.specs.declared.play.RunEnd.TheVariants as ends
 use Rattle.aq_run.proofs.Playing.{Opens, home_is, away_is, may_so, whole_run, part_run, serial_front}

@@ -1,7 +1,6 @@
 -- The status of a run.
 use Rattle.std.proofs.Common.{◌≡◌, ◌⊎◌, inl, inr, ℕ, Bool, true, false, refl, sym, ◌∙◌, subst, arith}
 use Rattle.std.specs.Prelude.{◌==◌, if◌then◌else◌}
-use Rattle.std.proofs.lemmas.Bool.{eqb-true}
 use Rattle.aq_run.specs.Serve.{IsRun, status_of}
 use Rattle.aq_run.specs.declared.play.RunEnd.{RunEnd}
 use Rattle.aq_run.specs.declared.play.RunEnd.TheVariants as ends

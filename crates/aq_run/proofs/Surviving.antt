@@ -1,6 +1,6 @@
 -- What a call leaves of its disks.
-use Rattle.std.proofs.Common.{◌≡◌, ◌⊎◌, inl, inr, ◌≤◌, ℕ, Bool, true, false, List, [], Option, Some, None, Ok, length, take, refl, sym, ap, subst, ◌∙◌, arith}
-use Rattle.std.specs.Prelude.{IsSome, is_some}
+use Rattle.std.proofs.Common.{◌≡◌, ◌⊎◌, inl, inr, ◌≤◌, ℕ, true, false, List, [], Option, Some, None, Ok, length, refl, sym, ap, subst, ◌∙◌, arith}
+use Rattle.std.specs.Prelude.{IsSome}
 use Rattle.std.proofs.Math.Seq.{take-nil}
 use Rattle.std.proofs.lemmas.List.{take_all}
 use Rattle.aq_base.specs.declared.DbId.{DbId}
@@ -14,12 +14,12 @@ use Rattle.redo_journal.specs.Journaled.{Journaled}
 use Rattle.redo_journal.specs.Runs.{IsDiskSettled}
 use Rattle.redo_records.specs.Recovered.{recovered}
 use Rattle.commit_log.specs.Logged.{AreLoggable}
-use Rattle.crash_laws.specs.Crash.{Run, Recovers, RecoversFirst, SurvivesCrash}
+use Rattle.crash_laws.specs.Crash.{Run, RecoversFirst, SurvivesCrash}
 use Rattle.run_state.specs.Entries.{BeginsAs}
-use Rattle.durable_state.specs.Held.{Held, HasFailed}
+use Rattle.durable_state.specs.Held.{Held}
 use Rattle.durable_state.specs.Survival.{run_at, LogsRun, SurvivesAt}
 use Rattle.aq_world.specs.Mounting.{RecoversTo, KeepsRecovered}
-use Rattle.aq_run.specs.Disks.{run_of, SurvivesCall, Leaves, LeavesWhole}
+use Rattle.aq_run.specs.Disks.{run_of, SurvivesCall, LeavesWhole}
 
 -- ---- the run and its history
 

@@ -1,11 +1,10 @@
 -- Every commit is durable when the serial schedule has come to its end.
-use Rattle.std.proofs.Common.{◌≡◌, ◌≤◌, ◌<◌, ℕ, List, [], Bool, true, false, refl, sym, ap, ◌∙◌, subst, arith}
-use Rattle.std.specs.Prelude.{map, nat_lt, not, ◌&&◌, if◌then◌else◌}
+use Rattle.std.proofs.Common.{◌≡◌, ◌≤◌, ℕ, List, [], Bool, true, false, refl, sym, ap, ◌∙◌, arith}
+use Rattle.std.specs.Prelude.{nat_lt, if◌then◌else◌}
 use Rattle.std.proofs.lemmas.Bool.{and_parts, not-true, ltb-false}
 use Rattle.aq_base.specs.declared.DbId.{DbId}
 use Rattle.aq_base.specs.declared.DbId.TheVariants.{Home, Away}
 use Rattle.queue_rows.specs.Turns.{step_readings}
-use Rattle.queue_rows.specs.World.{uncounted}
 use Rattle.queue_rows.specs.declared.tables.Tables.{Tables}
 use Rattle.queue_rows.specs.declared.history.History.{History}
 use Rattle.queue_rows.specs.declared.history.SessionScript.{SessionScript}
@@ -17,7 +16,7 @@ use Rattle.run_laws.specs.World.{World, database_at, opened, stepped}
 use Rattle.run_laws.specs.Sending.{is_durable_at}
 use Rattle.run_laws.specs.Turns.{is_durable, all_durable, flushed, drained, closing_turn}
 use Rattle.run_laws.specs.Serial.{rounds, at_closing, next_closing_turn, IsSerial}
-use Rattle.run_laws.specs.Legal.{IsLegal, opens}
+use Rattle.run_laws.specs.Legal.{opens}
 use Rattle.run_laws.proofs.Worlds.{opens_valid}
 use Rattle.run_turns.proofs.Calling.{entries-opened}
 use Rattle.run_turns.proofs.Legally.{IsOnClock, rounds_on, closing_on}

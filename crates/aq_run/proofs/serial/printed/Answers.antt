@@ -1,4 +1,4 @@
-use Rattle.std.proofs.Common.{◌≡◌, ◌⊎◌, inl, inr, sym, ◌∙◌}
+use Rattle.std.proofs.Common.{◌⊎◌, inl, inr, ◌∙◌}
 use Rattle.aq_run.proofs.Statuses.{status_known, status_ran, status_halted}
 use Rattle.aq_run.proofs.serial.printed.Goals as goal
 
