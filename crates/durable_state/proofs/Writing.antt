@@ -18,7 +18,7 @@ use Rattle.durable_state.specs.Survival.{AreFaults, LogsRun, Stands, SurvivesAt}
 use Rattle.durable_state.specs.Writing.{Flushes, IsFlushEntry, Writes}
 use Rattle.durable_state.proofs.Logging.{makes_none}
 
-not_failed : {P : Type 0} (o : Option ℕ) → o ≡ None → IsSome o → P
+pub not_failed : {P : Type 0} (o : Option ℕ) → o ≡ None → IsSome o → P
 not_failed None none some = absurd (cc)
 not_failed (Some n) none some = absurd (cc)
 
