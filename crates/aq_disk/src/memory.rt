@@ -141,7 +141,9 @@ impl Disk for MemoryDisk {
 
     ghost says_of_sync = { λ old new failed. Syncs old new failed };
 
-    ghost reads_an_image = { λ d bytes same. left_read d.held.start.items d.held.kept.items d.counts.calls d.held.bytes.items bytes d.held.placed d.numbered d.held.as_kept same };
+    ghost reads_an_image = { λ d bytes same. left_read
+        d.held.start.items d.held.kept.items d.counts.calls d.held.bytes.items bytes
+        d.held.placed d.numbered d.held.as_kept same };
 
     ghost told_limit = { λ d bytes same. told_in_limit d.held.bytes.items bytes d.held.in_limit same };
 

@@ -36,10 +36,12 @@ pub(crate) fn create_queue(
     settings: QueueSettings,
 ) -> Result<List<Change>, CatalogFault>
     ensures changes { (now : ℕ) → IfOk result (λ changes. judged tables.now
-        (asks.CreateQueue queue.now table.now settings.kind settings.max_retries settings.retry_delay settings.retention) now
+        (asks.CreateQueue queue.now table.now
+        settings.kind settings.max_retries settings.retry_delay settings.retention) now
         ≡ Ok changes) }
     ensures refused { (now : ℕ) → IfErr result (Refuses (judged tables.now
-        (asks.CreateQueue queue.now table.now settings.kind settings.max_retries settings.retry_delay settings.retention) now)) }
+        (asks.CreateQueue queue.now table.now
+        settings.kind settings.max_retries settings.retry_delay settings.retention) now)) }
 {
     if find_table(tables, table).is_none() {
         return Err(CatalogFault::Refused(Reply::NoTable));

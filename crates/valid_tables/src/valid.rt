@@ -22,7 +22,8 @@ fn are_valid_seen(tables: &Tables) -> bool
 
 fn are_valid_rows(alloc: Global, tables: &Tables) -> Result<bool, AllocError>
     ensures { IfOk result (λ valid. valid ≡ (list_all (is_valid_table tables.now) tables.now.tables
-        && list_all (is_valid_queue tables.now) tables.now.queues && list_all (is_valid_sub tables.now) tables.now.subs
+        && list_all (is_valid_queue tables.now) tables.now.queues
+        && list_all (is_valid_sub tables.now) tables.now.subs
         && list_all (is_valid_schedule tables.now) tables.now.schedules
         && list_all (is_valid_message tables.now) tables.now.messages)) }
 {
