@@ -22,30 +22,28 @@ use Rattle.queue_rows.specs.declared.change.Change.{Change}
 use Rattle.queue_rows.specs.declared.change.Change.TheVariants as changes
 use Rattle.queue_rows.specs.declared.change.Commit.{Commit}
 use Rattle.redo_records.specs.Spelled.{HasSpelling, IsDatum, IsMsgRow, IsRule, IsSpelled, IsSubRow, IsTableRow}
-use Rattle.database_recovery.specs.Sound.{HasReadRule, IsSound, has_full_cells, is_full}
+use Rattle.redo_records.specs.Spellable.{HasFullCells, HasReadRule, IsFull}
+use Rattle.database_recovery.specs.Sound.{IsSound}
 use Rattle.database_recovery.proofs.Each.{all_changed, all_kept, all_last, all_pass, all_put, all_without_first, both, each_passes}
 use Rattle.database_recovery.proofs.Spelled.{rows_after}
 
 abbrev IsOrdered : TableRow → Type 0
 IsOrdered row = is_in_order row.fields ≡ true
 
-abbrev IsFull : MsgRow → Type 0
-IsFull m = has_full_cells m ≡ true
-
 -- what is kept from change to change
 record IsKept (t : Tables) : Type 0 where
   fields : AllByRecursion IsOrdered t.tables
   rules : AllByRecursion HasReadRule t.subs
-  cells : AllByRecursion IsFull t.messages
+  cells : AllByRecursion HasFullCells t.messages
 
 -- ---- what has a spelling
 
-full_datum : (d : Datum) → IsDatum d → is_full d ≡ true
-full_datum data_of.Null h = refl
-full_datum (data_of.Num n) h = refl
+full_datum : (d : Datum) → IsDatum d → IsFull d
+full_datum data_of.Null h = tt
+full_datum (data_of.Num n) h = tt
 full_datum (data_of.Text text) h = h.1
 
-full_data : (cells : List Datum) → AllByRecursion IsDatum cells → AllByRecursion (λ d. is_full d ≡ true) cells
+full_data : (cells : List Datum) → AllByRecursion IsDatum cells → AllByRecursion IsFull cells
 full_data [] h = tt
 full_data (d ∷ cells) h = (full_datum d h.0, full_data cells h.1)
 
@@ -61,11 +59,11 @@ with_table t row h k = all_put IsOrdered is_same_table row t.tables k.fields h.f
 with_sub : (t : Tables) (row : SubRow) → IsSubRow row → IsKept t → AllByRecursion HasReadRule (after_change t (changes.PutSub row)).subs
 with_sub t row h k = all_put HasReadRule is_same_sub row t.subs k.rules (read_rule row.rule row refl h.rule)
 
-with_message : (version : ℕ) (t : Tables) (row : MsgRow) → IsMsgRow version row → IsKept t → AllByRecursion IsFull (t.messages ++ row ∷ [])
-with_message version t row h k = all_last IsFull t.messages row k.cells (all_pass is_full row.facts.cells.cells (full_data row.facts.cells.cells h.cells.1))
+with_message : (version : ℕ) (t : Tables) (row : MsgRow) → IsMsgRow version row → IsKept t → AllByRecursion HasFullCells (t.messages ++ row ∷ [])
+with_message version t row h k = all_last HasFullCells t.messages row k.cells (full_data row.facts.cells.cells h.cells.1)
 
-with_change : (t : Tables) (id : ℕ) (f : MsgRow → MsgRow) → ((m : MsgRow) → IsFull m → IsFull (f m)) → IsKept t → AllByRecursion IsFull (changed_message t id f).messages
-with_change t id f keeps k = all_changed IsFull (λ m. m.id == id) f keeps t.messages k.cells
+with_change : (t : Tables) (id : ℕ) (f : MsgRow → MsgRow) → ((m : MsgRow) → HasFullCells m → HasFullCells (f m)) → IsKept t → AllByRecursion HasFullCells (changed_message t id f).messages
+with_change t id f keeps k = all_changed HasFullCells (λ m. m.id == id) f keeps t.messages k.cells
 
 with_slot_change : (t : Tables) (id slot : ℕ) (f : SlotRow → SlotRow) → IsKept t → IsKept (changed_message t id (with_slot slot f))
 with_slot_change t id slot f k =
@@ -75,7 +73,7 @@ without_a_queue : (t : Tables) (name : List ℕ) (there : Bool) → IsKept t →
 without_a_queue t name true k = record {
   fields = k.fields;
   rules = all_kept HasReadRule (λ s. not (bytes_eq s.queue name)) t.subs k.rules;
-  cells = all_kept IsFull (λ m. not (bytes_eq m.queue name)) t.messages k.cells;
+  cells = all_kept HasFullCells (λ m. not (bytes_eq m.queue name)) t.messages k.cells;
 }
 without_a_queue t name false k = k
 
@@ -91,7 +89,7 @@ moves : (t : Tables) (m : MsgRow) (queue : List ℕ) (at : ℕ) (there : Bool) �
 moves t m queue at true e k = rw e (record {
   fields = k.fields;
   rules = k.rules;
-  cells = all_changed IsFull (λ r. r.id == m.id) (moved_to queue at) (λ r h. h) t.messages k.cells;
+  cells = all_changed HasFullCells (λ r. r.id == m.id) (moved_to queue at) (λ r h. h) t.messages k.cells;
 })
 moves t m queue at false e k = rw e k
 
@@ -124,7 +122,7 @@ keeps version t (changes.Moved id queue at) h k = with_move t (find_message t id
 keeps version t (changes.Purged id) h k = record {
   fields = k.fields;
   rules = k.rules;
-  cells = all_without_first IsFull (λ m. m.id == id) t.messages k.cells;
+  cells = all_without_first HasFullCells (λ m. m.id == id) t.messages k.cells;
 }
 keeps version t (changes.Seen row) h k = record { fields = k.fields; rules = k.rules; cells = k.cells }
 keeps version t (changes.Counters next transaction latest) h k = record { fields = k.fields; rules = k.rules; cells = k.cells }
@@ -148,17 +146,17 @@ stays_sound version t c spelled fitting s =
     let k : IsKept t = record {
       fields = each_passes (λ row. is_in_order row.fields) t.tables s.fields;
       rules = s.rules;
-      cells = each_passes has_full_cells t.messages s.cells;
+      cells = s.cells;
     } in
     let u = kept_after version t c spelled.changes k in
     record {
       valid = valid_after t c fitting;
       fields = all_pass (λ row. is_in_order row.fields) (after t c).tables u.fields;
       rules = u.rules;
-      cells = all_pass has_full_cells (after t c).messages u.cells;
+      cells = u.cells;
       rows = rows_after version t c spelled (valid_after t c fitting) s.rows;
     }
 
 pub sound_at_first : (t : Tables) → t ≡ empty_tables → IsSound t
 unfolding is_valid
-sound_at_first t e = rw e (record { valid = refl; fields = refl; rules = tt; cells = refl; rows = record { tables = tt; queues = tt; subs = tt; schedules = tt; messages = tt; seen = tt } })
+sound_at_first t e = rw e (record { valid = refl; fields = refl; rules = tt; cells = tt; rows = record { tables = tt; queues = tt; subs = tt; schedules = tt; messages = tt; seen = tt } })

@@ -23,9 +23,13 @@ IsFull data_of.Null = Unit {0}
 IsFull (data_of.Num n) = Unit {0}
 IsFull (data_of.Text text) = is_not_empty text ≡ true
 
+-- none of its cells is an empty text
+abbrev pub HasFullCells : MsgRow → Type 0
+HasFullCells m = AllByRecursion IsFull m.facts.cells.cells
+
 -- no cell and no property is an empty text
 pub record HasFullData (m : MsgRow) : Type 0 where
-  pub cells : AllByRecursion IsFull m.facts.cells.cells
+  pub cells : HasFullCells m
   pub props : AllByRecursion (λ p. IsFull p.value) m.facts.props
 
 -- A subscriber that is put has a rule that is read again, and a message that goes in has full data. Of all other changes the types say enough.

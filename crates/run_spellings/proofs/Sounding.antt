@@ -5,8 +5,6 @@ use Rattle.std.specs.List.{AllByRecursion, list_all}
 use Rattle.std.proofs.lemmas.Bool.{and_parts, false≢true}
 use Rattle.payload_records.specs.Props.{are_props}
 use Rattle.payload_records.specs.declared.TheConstants.{PROP_LIMIT}
-use Rattle.payload_records.specs.declared.record.Datum.{Datum}
-use Rattle.payload_records.specs.declared.record.Datum.TheVariants as data_of
 use Rattle.queue_rows.specs.Rows.{find_table, find_queue}
 use Rattle.queue_rows.specs.Valid.{is_valid_message, is_valid_message_at, is_valid_message_in, has_right_props}
 use Rattle.queue_rows.specs.declared.tables.Tables.{Tables}
@@ -14,21 +12,10 @@ use Rattle.queue_rows.specs.declared.rows.TableRow.{TableRow}
 use Rattle.queue_rows.specs.declared.rows.QueueRow.{QueueRow}
 use Rattle.queue_rows.specs.declared.rows.MsgRow.{MsgRow}
 use Rattle.valid_laws.proofs.Parts.{and_l, and_r, valid_messages}
-use Rattle.database_recovery.specs.Sound.{IsSound, has_full_cells, is_full}
-use Rattle.redo_records.specs.Spellable.{HasFullData, IsFull}
+use Rattle.database_recovery.specs.Sound.{IsSound}
+use Rattle.redo_records.specs.Spellable.{HasFullCells, HasFullData}
 use Rattle.run_spellings.specs.SpellableRun.{HasSpellableRows}
 use Rattle.run_spellings.proofs.Adding.{props_full}
-
--- ---- cells
-
-datum_full : (d : Datum) → is_full d ≡ true → IsFull d
-datum_full data_of.Null h = tt
-datum_full (data_of.Num n) h = tt
-datum_full (data_of.Text text) h = h
-
-cells_full : (cells : List Datum) → list_all is_full cells ≡ true → AllByRecursion IsFull cells
-cells_full [] h = tt
-cells_full (d ∷ cells) h = let p = and_parts (is_full d) (list_all is_full cells) h in (datum_full d p.0, cells_full cells p.1)
 
 -- ---- properties
 
@@ -42,17 +29,16 @@ props_at t (Some queue) m h = props_in t queue (find_table t queue.table) m h
 
 -- ---- messages
 
-message_full : (t : Tables) (m : MsgRow) → has_full_cells m ≡ true → is_valid_message t m ≡ true → HasFullData m
+message_full : (t : Tables) (m : MsgRow) → HasFullCells m → is_valid_message t m ≡ true → HasFullData m
 message_full t m h v =
     let props = and_parts (nat_le (length m.facts.props) PROP_LIMIT) (are_props m.facts.props) (props_at t (find_queue t m.queue) m v) in
-    record { cells = cells_full m.facts.cells.cells h; props = props_full m.facts.props props.1 }
+    record { cells = h; props = props_full m.facts.props props.1 }
 
-messages_full : (t : Tables) (ms : List MsgRow) → list_all has_full_cells ms ≡ true → list_all (is_valid_message t) ms ≡ true → AllByRecursion HasFullData ms
+messages_full : (t : Tables) (ms : List MsgRow) → AllByRecursion HasFullCells ms → list_all (is_valid_message t) ms ≡ true → AllByRecursion HasFullData ms
 messages_full t [] h v = tt
 messages_full t (m ∷ ms) h v =
-    let p = and_parts (has_full_cells m) (list_all has_full_cells ms) h in
     let q = and_parts (is_valid_message t m) (list_all (is_valid_message t) ms) v in
-    (message_full t m p.0 q.0, messages_full t ms p.1 q.1)
+    (message_full t m h.0 q.0, messages_full t ms h.1 q.1)
 
 pub sound_is_spellable : (t : Tables) → IsSound t → HasSpellableRows t
 sound_is_spellable t s = record { rules = s.rules; messages = messages_full t t.messages s.cells (valid_messages t s.valid) }
