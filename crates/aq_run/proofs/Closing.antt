@@ -3,9 +3,9 @@ use Rattle.std.proofs.Common.{◌≡◌, ◌<◌, ◌⊎◌, inl, inr, ℕ, Bool
 use Rattle.std.specs.Prelude.{slice_get, is_some, OnOk, IfErr}
 use Rattle.std.proofs.lemmas.Bool.{lt-ltb}
 use Rattle.queue_rows.specs.Session.{Session, Untold}
-use Rattle.run_laws.specs.World.{World, read_clock}
-use Rattle.run_laws.specs.Turns.{next_reading, begun, flushed, session_turn, telling_turn, telling_of, telling_of_some, turn_of, turn_of_some, drained, closing_turn}
-use Rattle.run_laws.specs.Serial.{next_session_turn, at_closing, next_closing_turn}
+use Rattle.queue_rows.specs.World.{World, read_clock}
+use Rattle.queue_rows.specs.Turns.{next_reading, begun, flushed, session_turn, telling_turn, telling_of, telling_of_some, turn_of, turn_of_some, drained, closing_turn}
+use Rattle.queue_rows.specs.Serial.{next_session_turn, at_closing, next_closing_turn}
 use Rattle.aq_world.specs.Turning.{next_turned, reads_clock, is_owed, IsBrokenOff, IsUndone, broken_if, IsOfRun, IsWhole}
 use Rattle.aq_world.specs.declared.turn_end.TurnEnd.{TurnEnd}
 use Rattle.aq_world.specs.declared.turn_end.TurnEnd.TheVariants as ends

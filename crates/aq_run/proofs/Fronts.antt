@@ -4,10 +4,10 @@ use Rattle.std.specs.Prelude.{◌++◌, slice_get, if◌then◌else◌}
 use Rattle.queue_rows.specs.Session.{Session, Untold}
 use Rattle.queue_rows.specs.Order.{IsFront}
 use Rattle.queue_rows.specs.declared.history.Entry.{Entry}
-use Rattle.run_laws.specs.Statements.{next_statement}
-use Rattle.run_laws.specs.World.{World}
-use Rattle.run_laws.specs.Turns.{begun, own_turn, flushed, told, propagated, turn_of, turn_of_some, session_turn, telling_of, telling_of_some, telling_turn, timer_turn, propagator_turn, any_live, next_reading}
-use Rattle.run_laws.specs.Serial.{each, next_session_turn, next_timer_turn, next_propagator_turn, session_turns, telling_turns, round}
+use Rattle.queue_rows.specs.Statements.{next_statement}
+use Rattle.queue_rows.specs.World.{World}
+use Rattle.queue_rows.specs.Turns.{begun, own_turn, flushed, told, propagated, turn_of, turn_of_some, session_turn, telling_of, telling_of_some, telling_turn, timer_turn, propagator_turn, any_live, next_reading}
+use Rattle.queue_rows.specs.Serial.{each, next_session_turn, next_timer_turn, next_propagator_turn, session_turns, telling_turns, round}
 use Rattle.run_turns.proofs.Growing.{Grows, front_trans, grows_trans, grows_self, grows_begun, grows_flushed, grows_own, grows_told, grows_propagated}
 
 -- the entries so far are those of the first world

@@ -10,8 +10,8 @@ use Rattle.world_laws.specs.WorldLaws.{MayBegin}
 use Rattle.fate_laws.specs.Made.{commits_of, opening_of}
 use Rattle.history_fates.specs.Durability.{made, durable}
 use Rattle.database_recovery.specs.Sound.{IsSound}
-use Rattle.run_laws.specs.Legal.{IsLegalHistory}
-use Rattle.run_laws.specs.Serial.{IsSerial, IsSerialFront, IsOnTheWay}
+use Rattle.queue_rows.specs.Legal.{IsLegalHistory}
+use Rattle.queue_rows.specs.Serial.{IsSerial, IsSerialFront, IsOnTheWay}
 use Rattle.run_turns.specs.Laws.{SerialCallsAll, SerialFrontIsLegal, LegalCallsInOrder}
 use Rattle.run_fates.specs.DurableRun.{SerialIsDurable}
 use Rattle.run_spellings.specs.SpellableRun.{HasSpellableRows, have_text_rules}

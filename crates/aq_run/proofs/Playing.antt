@@ -2,19 +2,17 @@
 use Rattle.std.proofs.Common.{◌≡◌, List, [], refl, sym, ap, subst, ◌∙◌, map, arith}
 use Rattle.std.proofs.lemmas.List.{append-nil}
 use Rattle.std.specs.Prelude.{true}
-use Rattle.queue_rows.specs.Serial.{Begins}
+use Rattle.queue_rows.specs.Serial.{Begins, AreSerial, IsSerial, IsSerialFront, IsOnTheWay, in_all}
 use Rattle.queue_rows.specs.Tables.{empty_tables}
 use Rattle.queue_rows.specs.Valid.{is_valid}
 use Rattle.queue_rows.specs.Within.{are_within}
-use Rattle.queue_rows.specs.World.{uncounted, opening_moment}
+use Rattle.queue_rows.specs.World.{uncounted, opening_moment, World, opened}
 use Rattle.queue_rows.specs.declared.history.History.{History}
 use Rattle.queue_rows.specs.declared.history.SessionScript.{SessionScript}
 use Rattle.queue_rows.specs.declared.tables.Tables.{Tables}
 use Rattle.world_laws.specs.ValidWorld.{AreScripts}
 use Rattle.world_laws.specs.WorldLaws.{MayBegin}
-use Rattle.run_laws.specs.Legal.{IsLegalHistory, opens}
-use Rattle.run_laws.specs.Serial.{AreSerial, IsSerial, IsSerialFront, IsOnTheWay, in_all}
-use Rattle.run_laws.specs.World.{World, opened}
+use Rattle.queue_rows.specs.Legal.{IsLegalHistory, opens}
 use Rattle.run_turns.proofs.Calling.{session-opened, scripts-opened, entries-opened}
 use Rattle.run_state.specs.Entries.{BeginsAs}
 use Rattle.aq_world.specs.Turning.{IsOfRun}

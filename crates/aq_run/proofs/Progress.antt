@@ -4,11 +4,10 @@ use Rattle.std.specs.Prelude.{◌^◌, ◌||◌, slice_get}
 use Rattle.std.specs.List.{list_any}
 use Rattle.std.proofs.lemmas.Option.{slice_get_within, slice_get-get_or}
 use Rattle.queue_rows.specs.Session.{Session}
-use Rattle.queue_rows.specs.Turns.{is_live}
+use Rattle.queue_rows.specs.Turns.{is_live, next_reading, telling_turn, any_live}
 use Rattle.queue_rows.proofs.Sessions.{same_or_not}
-use Rattle.run_laws.specs.World.{World}
-use Rattle.run_laws.specs.Turns.{next_reading, telling_turn, any_live}
-use Rattle.run_laws.specs.Serial.{each, next_session_turn, next_timer_turn, next_propagator_turn, session_turns, telling_turns, round}
+use Rattle.queue_rows.specs.World.{World}
+use Rattle.queue_rows.specs.Serial.{each, next_session_turn, next_timer_turn, next_propagator_turn, session_turns, telling_turns, round}
 use Rattle.run_turns.proofs.Standing.{IsKept}
 use Rattle.run_turns.proofs.Ended.{all_dead}
 use Rattle.aq_run.specs.Progress.{asked, asked_by, AreAt, AreTold}

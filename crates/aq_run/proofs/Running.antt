@@ -11,9 +11,9 @@ use Rattle.queue_rows.specs.Order.{IsFront}
 use Rattle.queue_rows.specs.Within.{are_within, statement_count, is_script_within}
 use Rattle.queue_rows.specs.declared.history.Entry.{Entry}
 use Rattle.queue_rows.specs.declared.history.SessionScript.{SessionScript}
-use Rattle.run_laws.specs.World.{World}
-use Rattle.run_laws.specs.Turns.{any_live, drained, DrainsIn}
-use Rattle.run_laws.specs.Serial.{rounds, round, at_closing, next_closing_turn, IsOnTheWay, in_rounds, in_closing}
+use Rattle.queue_rows.specs.World.{World}
+use Rattle.queue_rows.specs.Turns.{any_live, drained, DrainsIn}
+use Rattle.queue_rows.specs.Serial.{rounds, round, at_closing, next_closing_turn, IsOnTheWay, in_rounds, in_closing}
 use Rattle.aq_world.specs.Turning.{IsUnclosed}
 use Rattle.aq_run.specs.Progress.{asked, asked_by, AreAt, AreTold}
 use Rattle.aq_run.specs.Rounds.{HasRun, IsClosed}

@@ -6,8 +6,8 @@ use Rattle.std.proofs.lemmas.Option.{slice_get_within, none-some}
 use Rattle.aq_base.specs.declared.DbId.TheVariants.{Home, Away}
 use Rattle.queue_rows.specs.Session.{Session, Untold}
 use Rattle.queue_rows.specs.Meaning.{Meaning, answers, parks}
-use Rattle.queue_rows.specs.Statements.{statement_of}
-use Rattle.queue_rows.specs.World.{greatest_moment}
+use Rattle.queue_rows.specs.Statements.{statement_of, meaning, next_statement}
+use Rattle.queue_rows.specs.World.{greatest_moment, World, read_clock, stepped, with_session}
 use Rattle.queue_rows.specs.declared.change.Change.{Change}
 use Rattle.queue_rows.specs.declared.history.SessionScript.{SessionScript}
 use Rattle.queue_rows.specs.declared.history.Step.{Step}
@@ -15,10 +15,8 @@ use Rattle.queue_rows.specs.declared.history.Step.TheVariants.{Park, Timer, Told
 use Rattle.queue_rows.specs.declared.reply.Reply.{Reply}
 use Rattle.queue_rows.specs.declared.statement.Statement.{Statement}
 use Rattle.queue_rows.proofs.Sessions.{get_set-cases}
-use Rattle.run_laws.specs.Statements.{meaning, next_statement}
-use Rattle.run_laws.specs.World.{World, read_clock, stepped, with_session}
-use Rattle.run_laws.specs.Sending.{Sending, offers, arrives, confirms, next_sending, may_follow, sent}
-use Rattle.run_laws.specs.Turns.{due_at, next_reading, begun, caught_up, timed, is_due, called, ended, turned_by, own_turn, is_durable, flushed, all_durable, told, propagated, propagated_by, turn_of, turn_of_some, session_turn, telling_of, telling_of_some, telling_turn, timer_turn, propagator_turn, any_live}
+use Rattle.queue_rows.specs.Sending.{Sending, offers, arrives, confirms, next_sending, may_follow, sent}
+use Rattle.queue_rows.specs.Turns.{due_at, next_reading, begun, caught_up, timed, is_due, called, ended, turned_by, own_turn, is_durable, flushed, all_durable, told, propagated, propagated_by, turn_of, turn_of_some, session_turn, telling_of, telling_of_some, telling_turn, timer_turn, propagator_turn, any_live}
 use Rattle.run_turns.proofs.Adding.{adds-stepped, adds-called, offer_adds, arrive_adds, confirm_adds, sessions-stepped}
 use Rattle.run_turns.proofs.Standing.{IsKept, kept_from, length-standing}
 use Rattle.run_turns.proofs.Ordering.{sessions-called, next_within}

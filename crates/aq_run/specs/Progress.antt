@@ -1,7 +1,7 @@
 -- How far the sessions of a run have come.
 use Rattle.std.specs.Prelude.{◌≡◌, ◌≤◌, ℕ, true, length, Option, Some, None, slice_get}
 use Rattle.queue_rows.specs.Session.{Session}
-use Rattle.run_laws.specs.World.{World}
+use Rattle.queue_rows.specs.World.{World}
 use Rattle.queue_rows.specs.declared.history.SessionScript.{SessionScript}
 
 abbrev pub asked_by : Option SessionScript → ℕ

@@ -1,8 +1,8 @@
 -- The rounds that were taken in a run.
 use Rattle.std.specs.Prelude.{◌≡◌, ℕ}
-use Rattle.run_laws.specs.World.{World}
-use Rattle.run_laws.specs.Serial.{rounds, EndsIn, at_closing, next_closing_turn}
-use Rattle.run_laws.specs.Turns.{DrainsIn}
+use Rattle.queue_rows.specs.World.{World}
+use Rattle.queue_rows.specs.Serial.{rounds, EndsIn, at_closing, next_closing_turn}
+use Rattle.queue_rows.specs.Turns.{DrainsIn}
 
 -- so many rounds were taken, until no session went on, and then the closing turn
 pub record HasRun (old new : World) : Type 0 where

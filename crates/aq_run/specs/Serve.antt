@@ -6,8 +6,8 @@ use Rattle.aq_base.specs.Causes.{Rose}
 use Rattle.aq_base.specs.declared.DbId.{DbId}
 use Rattle.aq_base.specs.declared.DbId.TheVariants.{Home, Away}
 use Rattle.queue_rows.specs.Tables.{empty_tables}
-use Rattle.run_laws.specs.Serial.{IsSerial, IsSerialFront}
-use Rattle.run_laws.specs.Legal.{IsLegalHistory}
+use Rattle.queue_rows.specs.Serial.{IsSerial, IsSerialFront}
+use Rattle.queue_rows.specs.Legal.{IsLegalHistory}
 use Rattle.queue_rows.specs.Order.{CallsAll, CallsInOrder}
 use Rattle.queue_rows.specs.declared.history.History.{History}
 use Rattle.queue_rows.specs.declared.history.SessionScript.{SessionScript}

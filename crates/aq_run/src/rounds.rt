@@ -2,8 +2,8 @@
 ghost use Rattle.std.specs.Prelude.{◌≡◌, ◌≤◌, ◌<◌, ◌^◌, ◌+◌, length, OnOk, OnErr, IfErr};
 ghost use Rattle.queue_rows.specs.Order.{IsFront};
 ghost use Rattle.world_laws.specs.ValidWorld.{AreScripts};
-ghost use Rattle.run_laws.specs.Serial.{next_session_turn, next_timer_turn, next_propagator_turn, session_turns, telling_turns, round, IsOnTheWay};
-ghost use Rattle.run_laws.specs.Turns.{telling_turn};
+ghost use Rattle.queue_rows.specs.Serial.{next_session_turn, next_timer_turn, next_propagator_turn, session_turns, telling_turns, round, IsOnTheWay};
+ghost use Rattle.queue_rows.specs.Turns.{telling_turn};
 ghost use Rattle.aq_world.specs.Turning.{IsUnclosed, IsWhole};
 ghost use Rattle.aq_run.specs.Passing.{EndsBy, Passes};
 ghost use Rattle.aq_run.specs.Progress.{AreAt, AreTold};
@@ -117,7 +117,7 @@ fn propagator_turn<D: Disk>(world: &mut World<D>) -> Result<(), Broken>
 }
 
 /// A round of the serial schedule: a turn of each session, of the timer and of the propagator, and then what was called is told.
-#[tactic(auto, unfolding(run_laws::specs::Serial::round))]
+#[tactic(auto, unfolding(queue_rows::specs::Serial::round))]
 fn round<D: Disk>(world: &mut World<D>) -> Result<(), Broken>
     requires readings { world.old.world.readings < 2 ^ 62 + 2 ^ 30 }
     ensures world { OnOk result (world.new.world ≡ round world.old.world) }

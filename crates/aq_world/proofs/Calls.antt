@@ -11,7 +11,7 @@ use Rattle.slot_marks.specs.Marks.{SessionMarks, marks_of, has_slot, has_any_gro
 use Rattle.slot_marks.specs.declared.mark.Mark.{Mark}
 use Rattle.queue_rows.specs.Distinct.{are_distinct}
 use Rattle.queue_rows.specs.Session.{Session}
-use Rattle.queue_rows.specs.Statements.{statement_of}
+use Rattle.queue_rows.specs.Statements.{statement_of, meaning, next_statement, slot_sent}
 use Rattle.queue_rows.specs.Turns.{ids_taken}
 use Rattle.queue_rows.specs.Within.{are_within, is_script_within, statement_count}
 use Rattle.queue_rows.specs.declared.history.SessionScript.{SessionScript}
@@ -23,9 +23,7 @@ use Rattle.sessions.specs.States.{AreMarks, IsStateOf}
 use Rattle.sessions.specs.declared.state.SessionState.{SessionState}
 use Rattle.world_laws.specs.ValidWorld.{AreScripts}
 use Rattle.world_laws.proofs.Worlds.{asked}
-use Rattle.run_laws.specs.Statements.{meaning, next_statement, slot_sent}
-use Rattle.run_laws.specs.World.{World, database_at}
-use Rattle.run_laws.proofs.Was.{past}
+use Rattle.queue_rows.specs.World.{World, database_at}
 use Rattle.run_state.specs.CallEffects.{IsCallable, IsLater, call_meant, done_by, mark_of, pending_after}
 use Rattle.run_state.specs.Sessions.{session_of, unmarked, IsFreeIn}
 use Rattle.run_state.specs.declared.call_effect.CallEffect.{CallEffect}
@@ -103,7 +101,7 @@ may_call c w s statement is sound next = record {
   session = s;
   is = is;
   sound = sound;
-  within = (asked (past w) c.actor s statement sound.valid.scripts next).0;
+  within = (asked w c.actor s statement sound.valid.scripts next).0;
   early = let few = next_early w c.actor s statement sound.valid.scripts next in omega (arith, few);
 }
 

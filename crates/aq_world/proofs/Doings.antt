@@ -12,10 +12,10 @@ use Rattle.queue_rows.specs.Commits.{commit_of}
 use Rattle.queue_rows.specs.Dequeueing.{dequeue}
 use Rattle.queue_rows.specs.Enqueueing.{enqueue}
 use Rattle.queue_rows.specs.Listening.{listen}
-use Rattle.run_laws.specs.Statements.{meaning, slot_sent}
+use Rattle.queue_rows.specs.Statements.{meaning, slot_sent}
 use Rattle.queue_rows.specs.Transactions.{commit, rollback, rollback_of}
 use Rattle.queue_rows.specs.Valid.{is_valid}
-use Rattle.run_laws.specs.World.{World, database_at}
+use Rattle.queue_rows.specs.World.{World, database_at}
 use Rattle.queue_rows.specs.declared.tables.Tables.{Tables}
 use Rattle.queue_rows.specs.declared.change.Change.{Change}
 use Rattle.queue_rows.specs.declared.reply.Reply.{Reply}

@@ -5,18 +5,15 @@ use Rattle.aq_base.specs.declared.DbId.{DbId}
 use Rattle.aq_base.specs.declared.DbId.TheVariants.{Home, Away}
 use Rattle.queue_rows.specs.Session.{Session, Untold}
 use Rattle.queue_rows.specs.Meaning.{Meaning, answers, parks}
-use Rattle.queue_rows.specs.Turns.{ids_taken}
-use Rattle.queue_rows.specs.World.{at_home, at_away}
+use Rattle.queue_rows.specs.Turns.{ids_taken, due_at, begun, caught_up, timed, is_due, called, turned_by, own_turn, is_durable, flushed, all_durable, told, propagated, propagated_by, turn_of, turn_of_some, session_turn, telling_of, telling_of_some, telling_turn, timer_turn, propagator_turn, any_live, drained}
+use Rattle.queue_rows.specs.World.{at_home, at_away, other_db, World, read_clock, stepped, with_session}
 use Rattle.queue_rows.specs.declared.change.Change.{Change}
 use Rattle.queue_rows.specs.declared.history.Step.{Step}
 use Rattle.queue_rows.specs.declared.history.Step.TheVariants.{Call, Park, Timer, Offer, Arrive, Confirm, Told, Flush, End}
 use Rattle.queue_rows.specs.declared.reply.Reply.{Reply}
 use Rattle.queue_rows.specs.declared.statement.Statement.{Statement}
-use Rattle.history_fates.specs.Arrivals.{other_db}
-use Rattle.run_laws.specs.Statements.{meaning, next_statement}
-use Rattle.run_laws.specs.World.{World, read_clock, stepped, with_session}
-use Rattle.run_laws.specs.Sending.{Sending, offers, arrives, confirms, next_sending, may_follow, sent, taking_ids, ids_copied, home_of, away_of}
-use Rattle.run_laws.specs.Turns.{due_at, begun, caught_up, timed, is_due, called, turned_by, own_turn, is_durable, flushed, all_durable, told, propagated, propagated_by, turn_of, turn_of_some, session_turn, telling_of, telling_of_some, telling_turn, timer_turn, propagator_turn, any_live, drained}
+use Rattle.queue_rows.specs.Statements.{meaning, next_statement}
+use Rattle.queue_rows.specs.Sending.{Sending, offers, arrives, confirms, next_sending, may_follow, sent, taking_ids, ids_copied, home_of, away_of}
 use Rattle.aq_world.specs.Turning.{IsOfRun}
 
 pub of_run-refl : (w : World) → IsOfRun w w

@@ -2,9 +2,9 @@
 use Rattle.std.proofs.Common.{◌≡◌, ℕ, Option, Some, None, sym, ap, subst, ◌∙◌}
 use Rattle.std.specs.Prelude.{IfSome, option_map}
 use Rattle.queue_rows.specs.Session.{Session}
-use Rattle.run_laws.specs.Statements.{meaning, next_statement}
-use Rattle.run_laws.specs.Turns.{ended, own_turn, parked, turned_by}
-use Rattle.run_laws.specs.World.{World}
+use Rattle.queue_rows.specs.Statements.{meaning, next_statement}
+use Rattle.queue_rows.specs.Turns.{ended, own_turn, parked, turned_by}
+use Rattle.queue_rows.specs.World.{World}
 use Rattle.run_state.specs.CallEffects.{called_with}
 use Rattle.run_state.specs.declared.call_effect.CallEffect.{CallEffect}
 use Rattle.aq_world.specs.Stepping.{Means}

@@ -21,11 +21,11 @@ use Rattle.queue_rows.specs.Catalog.{Judged, judged}
 use Rattle.queue_rows.specs.Dequeueing as d
 use Rattle.queue_rows.specs.Enqueueing as q
 use Rattle.queue_rows.specs.Listening.{listen, listened, agents_fault, served_from, is_served}
-use Rattle.run_laws.specs.Statements.{meaning, slot_sent}
+use Rattle.queue_rows.specs.Statements.{meaning, slot_sent}
 use Rattle.queue_rows.specs.Transactions.{commit, rollback}
 use Rattle.queue_rows.specs.Valid.{is_valid}
 use Rattle.run_laws.specs.ValidRun.{IsValidWorld}
-use Rattle.run_laws.specs.World.{World, database_at}
+use Rattle.queue_rows.specs.World.{World, database_at}
 use Rattle.queue_rows.specs.declared.tables.Tables.{Tables}
 use Rattle.queue_rows.specs.declared.rows.TableRow.{TableRow}
 use Rattle.queue_rows.specs.declared.rows.QueueRow.{QueueRow}

@@ -5,16 +5,15 @@ use Rattle.std.proofs.lemmas.Bool.{lt-ltb, or_left}
 use Rattle.std.proofs.lemmas.List.Elements.{All-nil}
 use Rattle.queue_rows.specs.Meaning.{Meaning, answers, parks}
 use Rattle.queue_rows.specs.Session.{Session}
-use Rattle.queue_rows.specs.Turns.{step_readings}
+use Rattle.queue_rows.specs.Turns.{step_readings, next_reading, begun, caught_up, flushed, drained, session_turn, timer_turn, propagator_turn, any_live, is_due, DrainsIn}
 use Rattle.queue_rows.specs.declared.history.SessionScript.{SessionScript}
 use Rattle.queue_rows.specs.declared.tables.Tables.{Tables}
 use Rattle.sessions.specs.Numbers.{IsPendable}
 use Rattle.world_laws.specs.WorldLaws.{MayBegin}
-use Rattle.run_laws.specs.World.{World, opened, read_clock}
-use Rattle.run_laws.specs.Sending.{next_sending}
-use Rattle.run_laws.specs.Legal.{IsLegal, opens, reads, steps, is_actor, is_sender}
-use Rattle.run_laws.specs.Serial.{at_closing, next_closing_turn, next_session_turn, next_timer_turn, next_propagator_turn}
-use Rattle.run_laws.specs.Turns.{next_reading, begun, caught_up, flushed, drained, session_turn, timer_turn, propagator_turn, any_live, is_due, DrainsIn}
+use Rattle.queue_rows.specs.World.{World, opened, read_clock}
+use Rattle.queue_rows.specs.Sending.{next_sending}
+use Rattle.queue_rows.specs.Legal.{IsLegal, opens, reads, steps, is_actor, is_sender}
+use Rattle.queue_rows.specs.Serial.{at_closing, next_closing_turn, next_session_turn, next_timer_turn, next_propagator_turn}
 use Rattle.run_laws.specs.ValidRun.{IsValidWorld}
 use Rattle.run_laws.proofs.Grouping.{opens_grouped}
 use Rattle.run_laws.proofs.Worlds.{opens_valid}

@@ -15,11 +15,10 @@ use Rattle.queue_rows.specs.declared.rows.ScheduleRow.{ScheduleRow}
 use Rattle.queue_rows.specs.declared.rows.SlotRow.{SlotRow}
 use Rattle.queue_rows.specs.declared.rows.TableRow.{TableRow}
 use Rattle.queue_rows.specs.declared.tables.Tables.{Tables}
-use Rattle.history_fates.specs.Arrivals.{other_db}
+use Rattle.queue_rows.specs.World.{other_db, World, Stage, on_its_way, came, database_at, stepped}
 use Rattle.propagation.specs.Outcomes as outcomes
-use Rattle.run_laws.specs.World.{World, Stage, on_its_way, came, database_at, stepped}
-use Rattle.run_laws.specs.Sending.{Sending, offers, arrives, confirms, dispatch_at, picked, offer_of, arrival_of, confirmation_of, sending_on, next_sending, may_follow, sent}
-use Rattle.run_laws.specs.Turns.{is_durable, all_durable, flushed, propagated, propagated_by}
+use Rattle.queue_rows.specs.Sending.{Sending, offers, arrives, confirms, dispatch_at, picked, offer_of, arrival_of, confirmation_of, sending_on, next_sending, may_follow, sent}
+use Rattle.queue_rows.specs.Turns.{is_durable, all_durable, flushed, propagated, propagated_by}
 use Rattle.run_laws.specs.ValidRun.{IsValidWorld}
 use Rattle.run_laws.proofs.Working.{sent_dispatched}
 use Rattle.run_turns.proofs.Growing.{grows_propagated, grows_sent}

@@ -21,10 +21,10 @@ use Rattle.queue_rows.specs.declared.change.Change.{Change}
 use Rattle.queue_rows.specs.declared.history.SlotRef.{SlotRef}
 use Rattle.sessions.specs.States.{AreMarks}
 use Rattle.slot_marks.specs.Marks.{SessionMarks}
-use Rattle.run_laws.specs.Statements.{slot_sent}
-use Rattle.run_laws.specs.Turns.{due_at}
+use Rattle.queue_rows.specs.Statements.{slot_sent}
+use Rattle.queue_rows.specs.Turns.{due_at}
 use Rattle.run_laws.specs.ValidRun.{IsValidWorld}
-use Rattle.run_laws.specs.World.{World, database_at}
+use Rattle.queue_rows.specs.World.{World, database_at}
 use Rattle.run_state.specs.Sendings.{transit_of}
 use Rattle.run_state.specs.declared.transit.Transit.{Transit}
 use Rattle.time_manager.specs.Watching.{IsDue}

@@ -14,7 +14,7 @@ use Rattle.aq_base.specs.declared.limits.TheConstants.{SESSION_LIMIT, STATEMENT_
 use Rattle.queue_rows.specs.Session.{Session, standing_after}
 use Rattle.queue_rows.specs.Within.{are_within, statement_count, is_script_within}
 use Rattle.queue_rows.specs.Distinct.{are_distinct}
-use Rattle.queue_rows.specs.World.{fresh}
+use Rattle.queue_rows.specs.World.{fresh, World, opened, read_clock}
 use Rattle.queue_rows.specs.declared.change.Change.{Change}
 use Rattle.queue_rows.specs.declared.history.SlotRef.{SlotRef}
 use Rattle.queue_rows.specs.declared.history.SessionScript.{SessionScript}
@@ -26,10 +26,9 @@ use Rattle.database_recovery.specs.Sound.{IsSound as IsSoundTables}
 use Rattle.sessions.specs.Numbers.{IsPendable}
 use Rattle.world_laws.specs.ValidWorld.{AreScripts}
 use Rattle.world_laws.specs.WorldLaws.{MayBegin}
-use Rattle.run_laws.specs.World.{World, opened, read_clock}
-use Rattle.run_laws.specs.Sending.{sent, offers}
-use Rattle.run_laws.specs.Turns.{having_called, due_at}
-use Rattle.run_laws.specs.Legal.{MayStep}
+use Rattle.queue_rows.specs.Sending.{sent, offers}
+use Rattle.queue_rows.specs.Turns.{having_called, due_at}
+use Rattle.queue_rows.specs.Legal.{MayStep}
 use Rattle.run_laws.proofs.Grouping.{opens_grouped, reading_keeps_groups, step_keeps_groups}
 use Rattle.run_laws.proofs.Positions.{was_at, length-standing}
 use Rattle.run_laws.proofs.Stepping.{call_sessions, step_sessions, world_at}

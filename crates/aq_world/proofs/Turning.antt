@@ -8,12 +8,12 @@ use Rattle.queue_rows.specs.Session.{Session, Untold}
 use Rattle.queue_rows.specs.declared.history.Step.TheVariants.{Timer}
 use Rattle.sessions.specs.declared.state.SessionState.{SessionState}
 use Rattle.sessions.specs.declared.state.Untold as kept
-use Rattle.run_laws.specs.World.{World, read_clock}
-use Rattle.run_laws.specs.Sending.{next_sending}
-use Rattle.run_laws.specs.Serial.{at_closing, next_closing_turn, next_session_turn, next_timer_turn, next_propagator_turn}
-use Rattle.run_laws.specs.Statements.{next_statement}
-use Rattle.run_laws.specs.Turns.{next_reading, is_due, timed, caught_up, begun, own_turn, flushed, told, any_live, propagated, drained, drained_once, is_still, closing_turn, DrainsIn}
-use Rattle.run_laws.specs.Legal.{is_actor, is_sender}
+use Rattle.queue_rows.specs.World.{World, read_clock}
+use Rattle.queue_rows.specs.Sending.{next_sending}
+use Rattle.queue_rows.specs.Serial.{at_closing, next_closing_turn, next_session_turn, next_timer_turn, next_propagator_turn}
+use Rattle.queue_rows.specs.Statements.{next_statement}
+use Rattle.queue_rows.specs.Turns.{next_reading, is_due, timed, caught_up, begun, own_turn, flushed, told, any_live, propagated, drained, drained_once, is_still, closing_turn, DrainsIn}
+use Rattle.queue_rows.specs.Legal.{is_actor, is_sender}
 use Rattle.run_laws.specs.ValidRun.{IsValidWorld}
 use Rattle.run_laws.proofs.Worlds.{step_keeps_valid}
 use Rattle.run_turns.proofs.Growing.{front_same, front_trans, drained_longer, grows_drained, grows_flushed, grows_told}

@@ -41,8 +41,8 @@ use Rattle.queue_rows.specs.declared.statement.Statement.{Statement}
 use Rattle.queue_rows.specs.declared.statement.Statement.TheVariants as statements
 use Rattle.queue_rows.specs.declared.statement.Visibility.{Visibility}
 use Rattle.queue_rows.specs.declared.statement.Visibility.TheVariants as visibilities
-use Rattle.run_laws.specs.Statements.{meaning, slot_sent}
-use Rattle.run_laws.specs.World.{World, database_at}
+use Rattle.queue_rows.specs.Statements.{meaning, slot_sent}
+use Rattle.queue_rows.specs.World.{World, database_at}
 
 -- it is answered, and does not wait
 abbrev pub IsAnswer : Meaning → Type 0

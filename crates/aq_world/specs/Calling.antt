@@ -11,8 +11,8 @@ use Rattle.sessions.specs.Effects.{meant}
 use Rattle.sessions.specs.States.{AreMarks, IsStateOf}
 use Rattle.sessions.specs.declared.state.Effect.{Effect}
 use Rattle.sessions.specs.declared.state.SessionState.{SessionState}
-use Rattle.run_laws.specs.Statements.{meaning, slot_sent}
-use Rattle.run_laws.specs.World.{World, database_at}
+use Rattle.queue_rows.specs.Statements.{meaning, slot_sent}
+use Rattle.queue_rows.specs.World.{World, database_at}
 use Rattle.run_state.specs.CallEffects.{call_meant, mark_of}
 use Rattle.aq_world.specs.Sound.{IsSound}
 use Rattle.aq_world.specs.declared.respond.Caller.{Caller}

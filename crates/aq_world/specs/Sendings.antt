@@ -2,10 +2,10 @@
 use Rattle.std.specs.Prelude.{ℕ, ◌+◌, ◌<◌, ◌^◌, if◌then◌else◌}
 use Rattle.aq_base.specs.declared.DbId.{DbId}
 use Rattle.propagation.specs.Outcomes.{meant}
-use Rattle.run_laws.specs.Sending as steps
-use Rattle.run_laws.specs.Sending.{offers, arrives, confirms, may_follow}
-use Rattle.run_laws.specs.Turns.{flushed}
-use Rattle.run_laws.specs.World.{World, database_at}
+use Rattle.queue_rows.specs.Sending as steps
+use Rattle.queue_rows.specs.Sending.{offers, arrives, confirms, may_follow}
+use Rattle.queue_rows.specs.Turns.{flushed}
+use Rattle.queue_rows.specs.World.{World, database_at}
 use Rattle.aq_world.specs.declared.sending.Sending.{Sending}
 use Rattle.aq_world.specs.declared.sending.Sending.TheVariants.{Offer, Arrive, Confirm}
 

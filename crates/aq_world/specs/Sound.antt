@@ -4,10 +4,10 @@ use Rattle.queue_rows.specs.Session.{Session}
 use Rattle.queue_rows.specs.Turns.{step_readings}
 use Rattle.sessions.specs.Numbers.{IsPendable}
 use Rattle.world_laws.specs.WorldLaws.{MayBegin}
-use Rattle.run_laws.specs.Legal.{IsLegal}
+use Rattle.queue_rows.specs.Legal.{IsLegal}
 use Rattle.run_laws.specs.RunLaws.{AreGroupedMarks}
 use Rattle.run_laws.specs.ValidRun.{IsValidWorld}
-use Rattle.run_laws.specs.World.{World, opened}
+use Rattle.queue_rows.specs.World.{World, opened}
 
 -- a session can commit what it has added: it has done no more than it has called
 pub record IsSoundSession (s : Session) : Type 0 where

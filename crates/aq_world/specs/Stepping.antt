@@ -2,8 +2,8 @@
 use Rattle.std.specs.Prelude.{◌≡◌, ◌<◌, ◌+◌, ◌^◌, ℕ, Option, Some, None}
 use Rattle.queue_rows.specs.Session.{Session}
 use Rattle.queue_rows.specs.declared.statement.Statement.{Statement}
-use Rattle.run_laws.specs.Statements.{meaning, next_statement}
-use Rattle.run_laws.specs.World.{World}
+use Rattle.queue_rows.specs.Statements.{meaning, next_statement}
+use Rattle.queue_rows.specs.World.{World}
 use Rattle.run_state.specs.CallEffects.{IsCallable}
 use Rattle.aq_world.specs.Calling.{doing_meant}
 use Rattle.aq_world.specs.declared.respond.Doing.{Doing}

@@ -3,10 +3,10 @@ use Rattle.std.specs.Prelude.{◌≡◌, ◌⊎◌, ◌&&◌, ◌||◌, ◌==◌
 use Rattle.queue_rows.specs.Order.{IsFront}
 use Rattle.queue_rows.specs.Session.{Session, Untold}
 use Rattle.queue_rows.specs.Meaning.{Meaning, answers, parks}
-use Rattle.run_laws.specs.Statements.{meaning, next_statement}
-use Rattle.run_laws.specs.Sending.{next_sending}
-use Rattle.run_laws.specs.World.{World, read_clock}
-use Rattle.run_laws.specs.Turns.{session_turn, timer_turn, propagator_turn, any_live, is_due, caught_up, begun, flushed, drained, next_reading}
+use Rattle.queue_rows.specs.Statements.{meaning, next_statement}
+use Rattle.queue_rows.specs.Sending.{next_sending}
+use Rattle.queue_rows.specs.World.{World, read_clock}
+use Rattle.queue_rows.specs.Turns.{session_turn, timer_turn, propagator_turn, any_live, is_due, caught_up, begun, flushed, drained, next_reading}
 use Rattle.run_laws.specs.ValidRun.{IsValidWorld}
 use Rattle.run_state.specs.Entries.{IsUntold}
 use Rattle.durable_state.specs.declared.broken.Broken.{Broken}

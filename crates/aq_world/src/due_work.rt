@@ -1,9 +1,9 @@
 // Due work: a turn takes the clock first, and then does what is due at both databases.
 ghost use Rattle.std.specs.Prelude.{◌≡◌, ◌<◌, ◌+◌, ◌^◌, IfOk, OnOk, OnErr};
-ghost use Rattle.run_laws.specs.Statements.{slot_sent};
-ghost use Rattle.run_laws.specs.Turns.{begun, caught_up, due_at, is_due, next_reading};
+ghost use Rattle.queue_rows.specs.Statements.{slot_sent};
+ghost use Rattle.queue_rows.specs.Turns.{begun, caught_up, due_at, is_due, next_reading};
 ghost use Rattle.run_laws.specs.ValidRun.{IsValidWorld};
-ghost use Rattle.run_laws.specs.World.{read_clock};
+ghost use Rattle.queue_rows.specs.World.{read_clock};
 ghost use Rattle.aq_world.specs.Going.{GoesQuietly};
 
 use aq_base::{DbId, MOMENT_LIMIT};
@@ -42,7 +42,7 @@ pub fn due_at(state: &RunState, db: DbId) -> Result<List<Change>, AllocError>
 }
 
 /// Does the work that is due, and tells whether there was any. At want of memory all is as before.
-#[tactic(auto, unfolding(run_laws::specs::Turns::caught_up, run_laws::specs::Turns::is_due))]
+#[tactic(auto, unfolding(queue_rows::specs::Turns::caught_up, queue_rows::specs::Turns::is_due))]
 pub fn catch_up<D: Disk>(state: &mut DurableState<D>, actor: u32) -> Result<bool, AllocError>
     requires { IsValidWorld state.old.world }
     ensures ok { OnOk result (state.new.world ≡ caught_up actor state.old.world) }

@@ -1,7 +1,7 @@
 // A session's own step: it calls its next statement, waits with it, or ends.
 ghost use Rattle.std.specs.Prelude.{◌≡◌, ◌⊎◌, IfOk, OnOk, OnErr};
-ghost use Rattle.run_laws.specs.Statements.{next_statement};
-ghost use Rattle.run_laws.specs.Turns.{own_turn};
+ghost use Rattle.queue_rows.specs.Statements.{next_statement};
+ghost use Rattle.queue_rows.specs.Turns.{own_turn};
 ghost use Rattle.run_state.specs.Sessions.{OfSession};
 ghost use Rattle.aq_world.specs.Going.{GoesQuietly};
 ghost use Rattle.aq_world.specs.Sound.{IsSound};

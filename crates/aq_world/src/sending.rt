@@ -1,11 +1,10 @@
 // Propagation: the step that comes next, and what must be durable before it.
 ghost use Rattle.std.specs.Prelude.{◌≡◌, ◌+◌, Some, IfOk, OnOk, OnErr, is_some, option_map, option_and_then};
-ghost use Rattle.history_fates.specs.Arrivals.{other_db};
-ghost use Rattle.run_laws.specs.Sending.{may_follow, next_sending, offer_of, picked, picked_at, sending_on, sent};
+ghost use Rattle.queue_rows.specs.World.{other_db, on_its_way, came};
+ghost use Rattle.queue_rows.specs.Sending.{may_follow, next_sending, offer_of, picked, picked_at, sending_on, sent};
 ghost use Rattle.queue_rows.specs.Order.{IsFront};
-ghost use Rattle.run_laws.specs.Turns.{propagated};
+ghost use Rattle.queue_rows.specs.Turns.{propagated};
 ghost use Rattle.run_laws.specs.ValidRun.{IsValidWorld};
-ghost use Rattle.run_laws.specs.World.{on_its_way, came};
 ghost use Rattle.run_state.specs.Entries.{IsUntold};
 ghost use Rattle.aq_world.specs.Going.{GoesAs, GoesQuietly};
 ghost use Rattle.aq_world.specs.Sendings.{sending_meant, made_ready, HasIds};
@@ -123,7 +122,7 @@ fn next_confirmation(state: &RunState, at: SlotRef, place: u64) -> Result<Sendin
 }
 
 /// The step of propagation that comes next, if there is one: one slot is sent at a time.
-#[tactic(auto, unfolding(run_laws::specs::Sending::next_sending))]
+#[tactic(auto, unfolding(queue_rows::specs::Sending::next_sending))]
 pub fn next_sending(state: &RunState) -> Result<Option<Sending>, AllocError>
     requires { IsValidWorld state.now }
     ensures { IfOk result (λ next. option_map sending_meant next ≡ next_sending state.now) }

@@ -1,8 +1,8 @@
 // The turns of the sessions, the timer, the propagator and the closing turn.
 ghost use Rattle.std.specs.Prelude.{◌≡◌, ◌<◌, ◌^◌, ℕ, not, length, OnOk, OnErr, IfOk, slice_get};
 ghost use Rattle.queue_rows.specs.Order.{IsFront};
-ghost use Rattle.run_laws.specs.Serial.{at_closing, next_closing_turn, next_propagator_turn, next_session_turn, next_timer_turn};
-ghost use Rattle.run_laws.specs.Turns.{drained, drained_once, is_still, next_reading, DrainsIn};
+ghost use Rattle.queue_rows.specs.Serial.{at_closing, next_closing_turn, next_propagator_turn, next_session_turn, next_timer_turn};
+ghost use Rattle.queue_rows.specs.Turns.{drained, drained_once, is_still, next_reading, DrainsIn};
 ghost use Rattle.run_laws.specs.ValidRun.{IsValidWorld};
 ghost use Rattle.run_state.specs.Entries.{IsUntold};
 ghost use Rattle.aq_world.specs.Going.{GoesAs};

@@ -1,12 +1,11 @@
 // The world of a run, and the turns of its actors.
 ghost use Rattle.std.specs.Prelude.{◌≡◌, ◌<◌, ◌≤◌, ◌^◌, ◌⊎◌, ℕ, [], MatchResult, IfOk, IfErr, map, length, slice_get};
 ghost use Rattle.queue_rows.specs.Order.{IsFront};
-ghost use Rattle.queue_rows.specs.World.{uncounted};
+ghost use Rattle.queue_rows.specs.World.{uncounted, database_at, opened};
 ghost use Rattle.database_recovery.specs.Sound.{IsSound};
 ghost use Rattle.world_laws.specs.ValidWorld.{AreScripts};
-ghost use Rattle.run_laws.specs.Serial.{at_closing, next_closing_turn};
-ghost use Rattle.run_laws.specs.Turns.{any_live, next_reading, DrainsIn};
-ghost use Rattle.run_laws.specs.World.{database_at, opened};
+ghost use Rattle.queue_rows.specs.Serial.{at_closing, next_closing_turn};
+ghost use Rattle.queue_rows.specs.Turns.{any_live, next_reading, DrainsIn};
 ghost use Rattle.run_state.specs.Entries.{BeginsAs};
 ghost use Rattle.durable_state.specs.Going.{Goes};
 ghost use Rattle.durable_state.specs.Held.{HasFailed};

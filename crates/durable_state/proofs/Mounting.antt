@@ -8,7 +8,7 @@ use Rattle.queue_rows.specs.declared.history.SessionScript.{SessionScript}
 use Rattle.redo_journal.specs.Journaled.{Journaled}
 use Rattle.crash_laws.specs.Crash.{Run, opened_run}
 use Rattle.crash_laws.specs.CrashLaws.{OpeningSurvives}
-use Rattle.run_laws.specs.World.{World, opened}
+use Rattle.queue_rows.specs.World.{World, opened}
 use Rattle.durable_state.specs.Counted.{counted}
 use Rattle.durable_state.specs.Mounting.{IsMountedOn}
 use Rattle.durable_state.specs.Survival.{AreFaults, Begun, Survives, SurvivesAt}

@@ -9,13 +9,13 @@ use Rattle.queue_rows.specs.declared.change.Change.{Change}
 use Rattle.queue_rows.specs.declared.history.Entry.{Entry}
 use Rattle.redo_journal.specs.Journaled.{Journaled}
 use Rattle.crash_laws.specs.Crash.{Run, with_entry}
-use Rattle.run_laws.specs.World.{World}
+use Rattle.queue_rows.specs.World.{World}
 use Rattle.durable_state.specs.Counted.{with_calls, counted}
 use Rattle.durable_state.specs.Going.{Goes}
 use Rattle.durable_state.specs.Held.{Held, HasFailed}
-use Rattle.durable_state.specs.Queueing.{Enters, IsQuietEntry, numbers, queued_of, taken_back, unqueueing, with_numbers}
+use Rattle.durable_state.specs.Queueing.{Enters, numbers, queued_of, taken_back, unqueueing, with_numbers}
 use Rattle.durable_state.specs.Survival.{Begun, Survives, SurvivesAt, run_at}
-use Rattle.durable_state.specs.Writing.{Flushes, IsFlushEntry, Writes}
+use Rattle.durable_state.specs.Writing.{Flushes, Writes}
 use Rattle.durable_state.specs.declared.disk_calls.DiskCalls.{DiskCalls}
 use Rattle.durable_state.specs.declared.run_logs.Queued.{Queued}
 use Rattle.durable_state.specs.declared.run_logs.RunLogs.{RunLogs}

@@ -7,17 +7,14 @@ use Rattle.aq_base.specs.declared.DbId.TheVariants.{Home, Away}
 use Rattle.history_fates.specs.Durability.{is_flush}
 use Rattle.queue_rows.specs.Propagating.{Arriving}
 use Rattle.queue_rows.specs.Session.{Session}
-use Rattle.queue_rows.specs.World.{at_home, at_away}
+use Rattle.queue_rows.specs.World.{at_home, at_away, other_db, World, Transit, entry_of, read_clock, stepped, with_session}
 use Rattle.queue_rows.specs.declared.change.Change.{Change}
 use Rattle.queue_rows.specs.declared.history.Entry.{Entry}
 use Rattle.queue_rows.specs.declared.history.SlotRef.{SlotRef}
 use Rattle.queue_rows.specs.declared.history.Step.{Step}
 use Rattle.queue_rows.specs.declared.history.Step.TheVariants.{Call, Park, Told, Flush, End, Offer, Arrive, Confirm}
-use Rattle.queue_rows.specs.Turns.{ids_taken}
-use Rattle.run_laws.specs.Sending.{Sending, offers, arrives, confirms, home_of, away_of, ids_copied, sent, taking_ids, transit_after}
-use Rattle.history_fates.specs.Arrivals.{other_db}
-use Rattle.run_laws.specs.Turns.{all_durable, called, ended, flushed, is_durable, parked, told}
-use Rattle.run_laws.specs.World.{World, Transit, entry_of, read_clock, stepped, with_session}
+use Rattle.queue_rows.specs.Turns.{ids_taken, all_durable, ended, flushed, is_durable, parked, told}
+use Rattle.queue_rows.specs.Sending.{offers, arrives, confirms, home_of, away_of, ids_copied, sent, taking_ids, transit_after}
 use Rattle.run_state.specs.CallEffects.{called_with}
 use Rattle.run_state.specs.Entries.{IsUntold}
 use Rattle.run_state.specs.Sessions.{OfSession, session_of, unmarked}

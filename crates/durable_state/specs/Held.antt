@@ -2,7 +2,7 @@
 use Rattle.std.specs.Prelude.{◌⊎◌, List, IsSome}
 use Rattle.queue_rows.specs.declared.history.Entry.{Entry}
 use Rattle.redo_journal.specs.Journaled.{Journaled}
-use Rattle.run_laws.specs.World.{World}
+use Rattle.queue_rows.specs.World.{World}
 
 -- the world of the run; its entries once more, each with the disks' call numbers behind it; and the logs of both databases
 pub record Held (D : Type 0) : Type 0 where

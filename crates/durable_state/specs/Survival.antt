@@ -10,7 +10,7 @@ use Rattle.redo_journal.specs.Journaled.{Journaled}
 use Rattle.redo_journal.specs.Runs.{IsDiskSettled}
 use Rattle.crash_laws.specs.Crash.{Run, SurvivesCrash}
 use Rattle.commit_log.specs.Logged.{AreLoggable, Logs}
-use Rattle.run_laws.specs.World.{database_at}
+use Rattle.queue_rows.specs.World.{database_at}
 use Rattle.durable_state.specs.Held.{Held}
 
 -- the disks as they were handed in

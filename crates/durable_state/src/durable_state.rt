@@ -1,7 +1,6 @@
 // The state of a run over its disks.
 ghost use Rattle.std.specs.Prelude.{◌≡◌, [], IfOk, IfErr, map};
-ghost use Rattle.queue_rows.specs.World.{uncounted};
-ghost use Rattle.run_laws.specs.World.{opened};
+ghost use Rattle.queue_rows.specs.World.{uncounted, opened};
 ghost use Rattle.run_state.specs.Entries.{BeginsAs};
 ghost use Rattle.durable_state.specs.Mounting.{IsMountedOn};
 ghost use Rattle.durable_state.specs.Survival.{Begun, Survives};

@@ -1,6 +1,6 @@
 // The steps of a run that make its commits durable.
 ghost use Rattle.std.specs.Prelude.{◌≡◌, Err, OnOk, OnErr};
-ghost use Rattle.run_laws.specs.Turns.{flushed, told};
+ghost use Rattle.queue_rows.specs.Turns.{flushed, told};
 ghost use Rattle.run_state.specs.Entries.{IsUntold};
 ghost use Rattle.run_state.specs.Sessions.{OfSession};
 ghost use Rattle.durable_state.specs.Going.{Goes};

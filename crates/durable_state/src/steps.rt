@@ -2,10 +2,9 @@
 ghost use Rattle.std.specs.Prelude.{◌≡◌, ◌<◌, ◌+◌, ◌^◌, ℕ, OnOk, OnErr};
 ghost use Rattle.propagation.specs.Outcomes.{meant};
 ghost use Rattle.queue_rows.specs.declared.history.Step.TheVariants.{Timer};
-ghost use Rattle.history_fates.specs.Arrivals.{other_db};
-ghost use Rattle.run_laws.specs.Sending.{offers, arrives, confirms, sent, home_of, away_of};
-ghost use Rattle.run_laws.specs.Turns.{parked, ended};
-ghost use Rattle.run_laws.specs.World.{database_at, read_clock, stepped};
+ghost use Rattle.queue_rows.specs.World.{other_db, database_at, read_clock, stepped};
+ghost use Rattle.queue_rows.specs.Sending.{offers, arrives, confirms, sent, home_of, away_of};
+ghost use Rattle.queue_rows.specs.Turns.{parked, ended};
 ghost use Rattle.run_state.specs.CallEffects.{IsCallable, called_with};
 ghost use Rattle.run_state.specs.Sessions.{OfSession};
 ghost use Rattle.durable_state.specs.Going.{Goes};

@@ -2,7 +2,6 @@ pub mod Admitting
 pub mod Arriving
 pub mod Commits
 pub mod Copying
-pub mod Example
 pub mod Giving
 pub mod Lasting
 pub mod Looking

@@ -1,4 +1,4 @@
--- In a legal history no session marks a slot that goes to the other database.
+-- A statement marks no slot that goes to the other database, and puts no message in of which its session has a slot marked.
 use Rattle.std.proofs.Common.{◌≡◌, ◌≢◌, ◌≤◌, ◌+◌, ◌⊎◌, inl, inr, ℕ, List, [], ◌∷◌, Bool, true, false, refl, sym, ap, ◌∙◌, subst, arith, Option, Some, None, Ok, Err, ◌==◌}
 use Rattle.std.specs.Prelude.{slice_get, slice_set, map, All}
 use Rattle.std.specs.List.{list_any}
@@ -6,7 +6,6 @@ use Rattle.std.proofs.lemmas.Bool.{eqb-true, ne_eqb, or_cases, or_from, false_fr
 use Rattle.std.proofs.lemmas.Option.{none-some, slice_get_within}
 use Rattle.std.proofs.lemmas.List.Elements.{All-head, All-tail, All-weaker}
 use Rattle.aq_base.specs.declared.DbId.{DbId}
-use Rattle.aq_base.specs.declared.DbId.TheVariants.{Home, Away}
 use Rattle.aq_base.specs.declared.limits.TheConstants.{MOMENT_LIMIT}
 use Rattle.queue_rows.specs.Rows.{find_message}
 use Rattle.queue_rows.specs.Session.{Session, is_same_db, marks_slot}
@@ -17,9 +16,7 @@ use Rattle.queue_rows.specs.Listening.{listen}
 use Rattle.queue_rows.specs.Transactions.{commit, rollback}
 use Rattle.queue_rows.specs.Propagating.{Dispatch, dispatch, confirming}
 use Rattle.queue_rows.specs.Statements.{meaning, slot_sent}
-use Rattle.queue_rows.specs.Turns.{ids_taken, having_called, called, all_durable}
-use Rattle.queue_rows.specs.World.{World, database_at, opened, fresh, read_clock, committed_tables, stepped, with_session}
-use Rattle.queue_rows.specs.Legal.{MayStep, IsLegal, opens, reads, steps}
+use Rattle.queue_rows.specs.World.{World, database_at, committed_tables}
 use Rattle.queue_rows.specs.Within.{is_within}
 use Rattle.queue_rows.specs.Valid.{is_valid, is_valid_schedule}
 use Rattle.queue_rows.specs.declared.tables.Tables.{Tables}
@@ -29,10 +26,7 @@ use Rattle.queue_rows.specs.declared.session.Pending.{Pending}
 use Rattle.queue_rows.specs.declared.session.Pending.TheVariants.{Add, Remove}
 use Rattle.queue_rows.specs.declared.change.Change.{Change}
 use Rattle.queue_rows.specs.declared.change.Change.TheVariants as changes
-use Rattle.queue_rows.specs.declared.history.SessionScript.{SessionScript}
 use Rattle.queue_rows.specs.declared.history.SlotRef.{SlotRef}
-use Rattle.queue_rows.specs.declared.history.Step.{Step}
-use Rattle.queue_rows.specs.declared.history.Step.TheVariants.{Call, Park, Timer, Offer, Arrive, Confirm, Told, Flush, End}
 use Rattle.queue_rows.specs.declared.reply.Reply.{Reply}
 use Rattle.queue_rows.specs.declared.reply.Reply.TheVariants as replies
 use Rattle.queue_rows.specs.declared.statement.Admin.{Admin}
@@ -41,7 +35,6 @@ use Rattle.queue_rows.specs.declared.statement.Statement.{Statement}
 use Rattle.queue_rows.specs.declared.statement.Statement.TheVariants as statements
 use Rattle.queue_rows.specs.declared.statement.Visibility.{Visibility}
 use Rattle.queue_rows.specs.declared.statement.Visibility.TheVariants as visibilities
-use Rattle.queue_rows.proofs.Sessions.{get_set-cases}
 use Rattle.valid_laws.specs.Openness.{is_open_at}
 use Rattle.valid_laws.specs.Touching.{puts_in}
 use Rattle.valid_laws.specs.PendingLaws.{IsAdditionRight, IsPendingRight}
@@ -52,18 +45,14 @@ use Rattle.statement_laws.specs.EnqueueLaws.{AddsIn, Adds}
 use Rattle.statement_laws.specs.StandingLaws.{AreStanding}
 use Rattle.statement_laws.proofs.Among.{Says, says_so}
 use Rattle.statement_laws.proofs.Adding.{enqueue_adds_right}
-use Rattle.statement_laws.proofs.Administering.{same_is}
 use Rattle.statement_laws.proofs.Taking.{dequeue_takes_free}
 use Rattle.statement_laws.proofs.Standing.{IsCommit, is_commit, IsRollback, is_rollback, confirmation_keeps_standing}
 use Rattle.statement_laws.proofs.Stepping.{HoldsSame, listen_same}
 use Rattle.fate_laws.specs.Proper.{ids_put_in}
-use Rattle.world_laws.specs.ValidWorld.{IsRight, IsValidWorld}
-use Rattle.world_laws.specs.WorldLaws.{MayBegin}
-use Rattle.world_laws.proofs.Worlds.{fresh_empty, asked, opens_valid, reading_keeps_valid, step_keeps_valid}
+use Rattle.world_laws.specs.ValidWorld.{IsRight}
 use Rattle.history_fates.specs.LocalMarks.{is_remote_at, MarksAreLocal}
-use Rattle.history_fates.proofs.Giving.{IsOwn, Gives, answered_gives}
-use Rattle.history_fates.proofs.Making.{own_db, world_at, called_at, call_sessions, own_behind, other_behind, still_behind, still_sessions, durable_behind, durable_sessions}
-use Rattle.history_fates.proofs.Staying.{local_committed}
+use Rattle.history_fates.proofs.Giving.{IsOwn, Gives}
+use Rattle.history_fates.proofs.Making.{own_db}
 use Rattle.history_fates.proofs.Looking.{dequeue_marks_local}
 use Rattle.history_fates.proofs.Sending.{sent_is_remote}
 
@@ -166,121 +155,7 @@ module _ (t : Tables) (db : DbId) (next moment i : ℕ) (s : Session) (sessions 
   marked_unput taken id slot after cs ids o g =
       puts_by_ids id cs (subst (All (λ a. (a == id) ≡ false)) (sym g.commit.ids_are) (All-weaker (IsOwn s next taken) (λ a. (a == id) ≡ false) (λ a own. other_id taken id slot a o own) ids g.from))
 
--- ---- worlds
-
-abbrev IsLocal : DbId → World → Type 0
-IsLocal db w = MarksAreLocal (database_at db w).tables db w.sessions
-
-local_as : (db : DbId) (w new : World) → (database_at db new).tables ≡ (database_at db w).tables → MarksAreLocal (database_at db w).tables db new.sessions → IsLocal db new
-local_as db w new e m j y g f id slot h = ap (λ t. is_remote_at t id slot) e ∙ m j y g f id slot h
-
--- one session is replaced
-marks_set : (t : Tables) (db : DbId) (i : ℕ) (s behind : Session) (sessions : List Session) → slice_get sessions i ≡ Some s → ((j : ℕ) (y : Session) → slice_get sessions j ≡ Some y → is_same_db y.at db ≡ true → (id slot : ℕ) → list_any (marks_slot id slot) y.marks ≡ true → is_remote_at t id slot ≡ false)
-    → (is_same_db behind.at db ≡ true → (id slot : ℕ) → list_any (marks_slot id slot) behind.marks ≡ true → is_remote_at t id slot ≡ false) → MarksAreLocal t db (slice_set sessions i behind)
-marks_set t db i s behind sessions there old own j y e f id slot h = by (get_set-cases sessions i j behind y (slice_get_within sessions i s there) e)
-  where
-    by : ((j ≡ i) × (Some behind ≡ Some y)) ⊎ ((j ≢ i) × (slice_get sessions j ≡ Some y)) → is_remote_at t id slot ≡ false
-    by (inl p) = let same : behind ≡ y = (let a : Some behind ≡ Some y = p.1 in cc) in own (ap (λ x. is_same_db x.at db) same ∙ f) id slot (ap (λ x. list_any (marks_slot id slot) x.marks) same ∙ h)
-    by (inr p) = old j y p.1 f id slot h
-
--- a call
-module _ (w : World) (i : ℕ) (s : Session) (statement : Statement) (reply : Reply) (cs : List Change) (after : Session) (v : IsValidWorld w) (l : (db : DbId) → IsLocal db w) (there : slice_get w.sessions i ≡ Some s) (within : is_within statement ≡ true)
-    (e : meaning w i s statement ≡ answers reply cs after) where
-  abbrev here : Tables
-  here = (database_at s.at w).tables
-
-  abbrev then_tables : Tables
-  then_tables = committed_tables here cs w.moment
-
-  abbrev new_world : World
-  new_world = called_at w i s reply cs after s.at
-
-  abbrev behind : Session
-  behind = having_called (world_at w i s reply cs after s.at) s after
-
-  stays : (id slot : ℕ) → is_remote_at here id slot ≡ false → is_open_at here id slot ≡ true → is_remote_at then_tables id slot ≡ false
-  stays id slot h o =
-      let r = v.databases s.at in
-      let g = answered_gives w i s statement reply cs after r v.last there within e in
-      local_committed slot id here w.moment cs r.valid g.1.commit.proper (marked_unput here s.at (database_at s.at w).next w.moment i s w.sessions r.valid r.standing there (own_db s.at) (ids_taken reply) id slot after cs g.0 o g.1) h
-
-  old_marks : (j : ℕ) (y : Session) → slice_get w.sessions j ≡ Some y → is_same_db y.at s.at ≡ true → (id slot : ℕ) → list_any (marks_slot id slot) y.marks ≡ true → is_remote_at then_tables id slot ≡ false
-  old_marks j y g f id slot h = stays id slot (l s.at j y g f id slot h) (((v.databases s.at).standing.each j y g f).marked id slot h)
-
-  own_marks : (id slot : ℕ) → list_any (marks_slot id slot) after.marks ≡ true → is_remote_at then_tables id slot ≡ false
-  own_marks id slot h = by (answered_marks w i s statement reply cs after (v.databases s.at) v.last there within e id slot h)
-    where
-      by : MarkedSo here s id slot → is_remote_at then_tables id slot ≡ false
-      by (inl g) = old_marks i s there (own_db s.at) id slot g
-      by (inr p) = stays id slot p.0 p.1
-
-  call_own : IsLocal s.at new_world
-  call_own j y g f id slot h =
-      ap (λ t. is_remote_at t id slot) (own_behind w i s reply cs after s.at).tables
-      ∙ marks_set then_tables s.at i s behind w.sessions there old_marks (λ _. own_marks) j y (ap (λ xs. slice_get xs j) (sym (call_sessions w i s reply cs after s.at)) ∙ g) f id slot h
-
-  call_other : (db : DbId) → is_same_db s.at db ≡ false → IsLocal db new_world
-  call_other db d =
-      local_as db w new_world (other_behind w i s reply cs after s.at db d).tables
-      (subst (MarksAreLocal (database_at db w).tables db) (sym (call_sessions w i s reply cs after s.at)) (marks_set (database_at db w).tables db i s behind w.sessions there (l db) (λ at. absurd (false≢true (sym d ∙ at)))))
-
-  call_by : (db : DbId) (b : Bool) → is_same_db s.at db ≡ b → IsLocal db new_world
-  call_by db true d = subst (λ x. IsLocal x new_world) (same_is s.at db d) call_own
-  call_by db false d = call_other db d
-
-  call_local : (db : DbId) → IsLocal db (called i s reply cs after w)
-  call_local db = call_by db (is_same_db s.at db) refl
-
-still_local : (actor i : ℕ) (w : World) (step : Step) (s behind : Session) → slice_get w.sessions i ≡ Some s → behind.at ≡ s.at → ((id slot : ℕ) → list_any (marks_slot id slot) behind.marks ≡ true → list_any (marks_slot id slot) s.marks ≡ true)
-    → ((db : DbId) → IsLocal db w) → (db : DbId) → IsLocal db (with_session i behind (stepped actor w [] [] step))
-still_local actor i w step s behind there same no_more l db =
-    local_as db w (with_session i behind (stepped actor w [] [] step)) (still_behind actor w step i behind db).tables
-    (subst (MarksAreLocal (database_at db w).tables db) (sym (still_sessions actor w step i behind))
-    (marks_set (database_at db w).tables db i s behind w.sessions there (l db) (λ at id slot h. l db i s there (ap (λ d. is_same_db d db) (sym same) ∙ at) id slot (no_more id slot h))))
-
-flush_local : (actor : ℕ) (w : World) → ((db : DbId) → IsLocal db w) → (db : DbId) → IsLocal db (all_durable (stepped actor w [] [] Flush))
-flush_local actor w l db = local_as db w (all_durable (stepped actor w [] [] Flush)) (durable_behind actor w Flush db).tables (subst (MarksAreLocal (database_at db w).tables db) (sym (durable_sessions actor w Flush)) (l db))
-
-abbrev AreLocal : World → Type 0
-AreLocal w = (db : DbId) → IsLocal db w
-
-step_local : (w new : World) (actor : ℕ) (step : Step) → IsValidWorld w → AreLocal w → MayStep actor step w new → AreLocal new
-step_local w new i (Call number reply) v l m =
-    let c = m.calls in
-    let k = asked w i m.session m.statement v.scripts c.next in
-    subst AreLocal (sym c.result) (call_local w i m.session m.statement reply m.changes m.after v l c.ready.there k.0 c.means)
-step_local w new i (Park number) v l m =
-    let p = m.parks in subst AreLocal (sym p.result) (still_local i i w (Park (m.session.next + 1)) m.session (record m.session { parked = Some m.since }) p.ready.there refl (λ id slot h. h) l)
-step_local w new i (Told number) v l m =
-    let t = m.tells in subst AreLocal (sym t.result) (still_local i i w (Told m.untold.number) m.session (record m.session { untold = None }) t.there refl (λ id slot h. h) l)
-step_local w new i Flush v l m = subst AreLocal (sym m.result) (flush_local i w l)
-step_local w new i End v l m =
-    subst AreLocal (sym m.1.result) (still_local i i w End m.0 (record m.0 { pending = []; marks = []; live = false }) m.1.ready.there refl (λ id slot h. absurd (false≢true h)) l)
-step_local w new i Timer v l m = absurd m
-step_local w new i (Offer at to) v l m = absurd m
-step_local w new i (Arrive at outcome) v l m = absurd m
-step_local w new i (Confirm at) v l m = absurd m
-
-read_local : (w : World) (reading : ℕ) (db : DbId) → IsLocal db w → IsLocal db (read_clock reading w)
-unfolding read_clock
-read_local w reading Home l = l
-read_local w reading Away l = l
-
-local_from : (start : World) → IsValidWorld start → AreLocal start → (readings : List ℕ) (w : World) → IsLegal start readings w → IsValidWorld w × AreLocal w
-local_from start v l readings w opens = (v, l)
-local_from start v l readings w (reads before u reading legal) = let x = local_from start v l before u legal in (reading_keeps_valid u reading x.0, λ db. read_local u reading db (x.1 db))
-local_from start v l readings w (steps same u new actor step legal timely may) = let x = local_from start v l same u legal in (step_keeps_valid u new actor step x.0 may, step_local u new actor step x.0 x.1 may)
-
-none_local : (t : Tables) (db : DbId) (scripts : List SessionScript) → MarksAreLocal t db (map fresh scripts)
-none_local t db scripts i s e f id slot h = none_marked s (fresh_empty scripts i s e).1 id slot h
-
-opened_local : (home away : Tables) (scripts : List SessionScript) → AreLocal (opened home away scripts)
-unfolding opened
-opened_local home away scripts Home = none_local home Home scripts
-opened_local home away scripts Away = none_local away Away scripts
-
-pub legal_marks_local : (home away : Tables) (scripts : List SessionScript) (readings : List ℕ) (w : World) → MayBegin home away scripts → IsLegal (opened home away scripts) readings w → (db : DbId) → MarksAreLocal (database_at db w).tables db w.sessions
-legal_marks_local home away scripts readings w b legal = (local_from (opened home away scripts) (opens_valid home away scripts b) (opened_local home away scripts) readings w legal).1
+-- ---- what was sent
 
 pub sent_confirmation_keeps_standing : (t : Tables) (db : DbId) (at : SlotRef) (d : Dispatch) (schedule : ScheduleRow) (next moment : ℕ) (sessions : List Session) → is_valid t ≡ true → t.latest ≤ moment → moment ≤ MOMENT_LIMIT → dispatch t at ≡ Some d → is_open_at t at.id at.slot ≡ true → is_valid_schedule t schedule ≡ true
     → MarksAreLocal t db sessions → AreStanding t db next moment sessions → AreStanding (committed_tables t (confirming t at schedule moment) moment) db next moment sessions

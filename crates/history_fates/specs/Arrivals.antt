@@ -1,12 +1,10 @@
 -- What arrives from the other database: each slot once at most, as a copy of its message.
 use Rattle.std.specs.Prelude.{◌≡◌, ◌≤◌, ◌==◌, ◌&&◌, ◌++◌, ℕ, List, [], ◌∷◌, Bool, true, false, count_by, Option, Some, None, is_some, if◌then◌else◌}
 use Rattle.aq_base.specs.declared.DbId.{DbId}
-use Rattle.aq_base.specs.declared.DbId.TheVariants.{Home, Away}
 use Rattle.queue_rows.specs.Rows.{find_message, slot_of}
 use Rattle.queue_rows.specs.Tables.{after_change}
 use Rattle.queue_rows.specs.Session.{is_same_db}
 use Rattle.queue_rows.specs.Propagating.{Dispatch, dispatch, arriving, is_pair, has_seen}
-use Rattle.queue_rows.specs.Legal.{IsLegalHistory}
 use Rattle.queue_rows.specs.Valid.{is_valid}
 use Rattle.queue_rows.specs.declared.tables.Tables.{Tables}
 use Rattle.queue_rows.specs.declared.rows.MsgRow.{MsgRow}
@@ -20,15 +18,9 @@ use Rattle.queue_rows.specs.declared.history.Step.{Step}
 use Rattle.queue_rows.specs.declared.history.Step.TheVariants.{Arrive}
 use Rattle.queue_rows.specs.declared.history.Entry.{Entry}
 use Rattle.queue_rows.specs.declared.history.History.{History}
-use Rattle.queue_rows.specs.declared.history.SessionScript.{SessionScript}
 use Rattle.valid_laws.specs.ArrivalLaws.{MayTakeIn}
 use Rattle.fate_laws.specs.Made.{changes_at, commits_of, changes_of, after_commits, opening_of}
-use Rattle.world_laws.specs.WorldLaws.{MayBegin}
 use Rattle.history_fates.specs.LegalFates.{all_fit}
-
-abbrev pub other_db : DbId → DbId
-other_db Home = Away
-other_db Away = Home
 
 -- ---- what was seen
 
@@ -49,11 +41,6 @@ pub record IsSeenOnce (t : Tables) (commits : List Commit) (at : SlotRef) : Type
 -- so it is where each commit fits
 abbrev pub FittingSeesOnce : Type 0
 FittingSeesOnce = (t : Tables) (commits : List Commit) (at : SlotRef) → all_fit t commits ≡ true → IsSeenOnce t commits at
-
--- and so it is in a legal history
-abbrev pub LegalSeesOnce : Type 0
-LegalSeesOnce = (home away : Tables) (scripts : List SessionScript) (h : History) → MayBegin home away scripts → IsLegalHistory home away scripts h
-    → (db : DbId) (at : SlotRef) → IsSeenOnce (opening_of db h) (commits_of db h.entries) at
 
 -- ---- a copy
 
@@ -127,8 +114,3 @@ pub record HasArrivals (h : History) : Type 0 where
 -- arrivals have these facts where all commits fit
 abbrev pub FittingHasArrivals : Type 0
 FittingHasArrivals = (h : History) → ((db : DbId) → all_fit (opening_of db h) (commits_of db h.entries) ≡ true) → AreArrivals h → HasArrivals h
-
--- and so has a legal history
-abbrev pub LegalHasArrivals : Type 0
-LegalHasArrivals = (home away : Tables) (scripts : List SessionScript) (h : History) → MayBegin home away scripts
-    → IsLegalHistory home away scripts h → HasArrivals h

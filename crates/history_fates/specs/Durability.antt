@@ -2,11 +2,8 @@
 use Rattle.std.specs.Prelude.{◌≡◌, ◌≤◌, ◌==◌, ◌&&◌, ◌++◌, ℕ, List, [], ◌∷◌, Bool, true, false, length, if◌then◌else◌}
 use Rattle.std.specs.List.{list_any}
 use Rattle.aq_base.specs.declared.DbId.{DbId}
-use Rattle.queue_rows.specs.Legal.{IsLegalHistory}
-use Rattle.queue_rows.specs.declared.tables.Tables.{Tables}
 use Rattle.queue_rows.specs.declared.history.Entry.{Entry}
 use Rattle.queue_rows.specs.declared.history.History.{History}
-use Rattle.queue_rows.specs.declared.history.SessionScript.{SessionScript}
 use Rattle.queue_rows.specs.declared.history.Step.{Step}
 use Rattle.queue_rows.specs.declared.history.Step.TheVariants.{Call, Told, Flush}
 use Rattle.fate_laws.specs.Made.{commits_of}
@@ -52,7 +49,3 @@ abbrev pub ToldIsDurable : History → Type 0
 ToldIsDurable h = (db : DbId) (i number : ℕ) (front : List Entry) (tells : Entry) (rest : List Entry) → h.entries ≡ front ++ tells ∷ rest → is_told i number tells ≡ true
     → (before : List Entry) (call : Entry) (more : List Entry) → front ≡ before ++ call ∷ more → is_call i number call ≡ true
     → made db (before ++ call ∷ []) ≤ durable db front
-
--- so it is in a legal history, whatever it begins with
-abbrev pub LegalIsDurableAsTold : Type 0
-LegalIsDurableAsTold = (home away : Tables) (scripts : List SessionScript) (h : History) → IsLegalHistory home away scripts h → ToldIsDurable h

@@ -1,16 +1,14 @@
 -- Small histories of which the laws speak: a message is taken; one is given up; one is put in; and one is sent to the other database.
 use Rattle.std.specs.Prelude.{◌≡◌, ◌+◌, pos, ℕ, List, [], ◌∷◌, true, false, Some, None, codes, take, count_by}
-use Rattle.aq_base.specs.declared.DbId.TheVariants.{Home, Away}
+use Rattle.aq_base.specs.declared.DbId.TheVariants.{Home}
 use Rattle.payload_records.specs.declared.payload.Payload.TheVariants as payloads
-use Rattle.queue_rows.specs.Rows.{exception_name, find_message}
-use Rattle.queue_rows.specs.Legal.{IsLegalHistory}
+use Rattle.queue_rows.specs.Rows.{exception_name}
 use Rattle.queue_rows.specs.declared.tables.Tables.{Tables}
 use Rattle.queue_rows.specs.declared.rows.MsgRow.{MsgRow}
 use Rattle.queue_rows.specs.declared.rows.SlotRow.{SlotRow}
 use Rattle.queue_rows.specs.declared.rows.SlotState.TheVariants as states
 use Rattle.queue_rows.specs.declared.change.Change.{Change}
 use Rattle.queue_rows.specs.declared.change.Change.TheVariants as changes
-use Rattle.queue_rows.specs.declared.history.Arrival.TheVariants.{Copied}
 use Rattle.queue_rows.specs.declared.history.Entry.{Entry}
 use Rattle.queue_rows.specs.declared.history.History.{History}
 use Rattle.queue_rows.specs.declared.history.SessionScript.{SessionScript}
@@ -26,11 +24,6 @@ use Rattle.queue_rows.specs.declared.statement.Statement.TheVariants as statemen
 use Rattle.queue_rows.specs.declared.statement.Visibility.{Visibility}
 use Rattle.queue_rows.specs.declared.statement.Visibility.TheVariants as visibilities
 use Rattle.valid_laws.specs.Examples.{example_table, example_message, example_tables, example_left}
-use Rattle.fate_laws.specs.Made.{commits_of, tables_after}
-use Rattle.fate_laws.specs.Fates.{Fate, ready, processed, expired, fate}
-use Rattle.history_fates.specs.LegalFates.{all_fit}
-use Rattle.history_fates.specs.Arrivals.{is_copied, AreArrivals}
-use Rattle.history_fates.specs.Durability.{made, durable}
 
 -- ---- what one session does
 
@@ -80,29 +73,6 @@ example_put = history_of (putting ∷ statements.Commit ∷ []) (
     ∷ entry_at 4 (changes.Enqueued put_message ∷ []) (steps.Call 2 replies.Ok)
     ∷ entry_at 6 [] steps.Flush ∷ entry_at 6 [] (steps.Told 2) ∷ entry_at 7 [] steps.End ∷ [])
 
--- the history is legal, and in it the slot has this fate
-pub record HasFateIn (h : History) (id slot : ℕ) (become : Fate) : Type 0 where
-  pub legal : IsLegalHistory example_tables example_left h.scripts h
-  pub fates : fate example_tables (commits_of Home h.entries) id slot ≡ Some become
-
--- it is processed, though its message is there no more; and what was committed was durable when its call was told, not before
-pub record ExampleIsTaken : Type 0 where
-  pub slot : HasFateIn example_taken 1 1 processed
-  pub gone : find_message (tables_after Home example_taken) 1 ≡ None
-  pub made_is : made Home (take 1 example_taken.entries) ≡ 1
-  pub before : durable Home (take 1 example_taken.entries) ≡ 0
-  pub told : durable Home (take 2 example_taken.entries) ≡ 1
-
--- its slot expired, and slot 0 is ready
-pub record ExampleIsGivenUp : Type 0 where
-  pub slot : HasFateIn example_given_up 1 1 expired
-  pub zero : HasFateIn example_given_up 1 0 ready
-
--- both messages are ready
-pub record ExampleIsPut : Type 0 where
-  pub old : HasFateIn example_put 1 1 ready
-  pub new : HasFateIn example_put 2 1 ready
-
 -- ---- what is sent
 
 -- a slot that goes to the queue of that name at the other database, and expires
@@ -124,30 +94,3 @@ sent_ref = record { db = Home; id = 1; slot = 1 }
 
 abbrev pub copied_message : MsgRow
 copied_message = record example_message { id = 2; place = pos 0 ∷ pos 2 ∷ []; enq = 5; group = 2; slots = record put_slot { at = 5; expires = Some 9 } ∷ [] }
-
--- an entry of the propagator
-abbrev pub sending_entry : ℕ → List Change → List Change → Step → Entry
-sending_entry readings home away step = record { actor = 65; moment = 3 + readings; readings = readings; home_calls = 0; away_calls = 0; home = home; away = away; step = step }
-
-abbrev pub offer_entry : Entry
-offer_entry = sending_entry 1 [] [] (steps.Offer sent_ref (codes "q"))
-
-abbrev pub arrive_entry : Entry
-arrive_entry = sending_entry 2 [] (changes.Enqueued copied_message ∷ changes.Seen (record { id = 1; slot = 1; copy = 2 }) ∷ []) (steps.Arrive sent_ref (Copied 2))
-
-abbrev pub flush_entry : Entry
-flush_entry = sending_entry 2 [] [] steps.Flush
-
-abbrev pub confirm_entry : Entry
-confirm_entry = sending_entry 3 (changes.Done 1 1 6 ∷ changes.Purged 1 ∷ []) [] (steps.Confirm sent_ref)
-
--- it is offered, arrives as message 2, and is confirmed; such steps are not legal yet
-abbrev pub example_sent : History
-example_sent = record { home = sending_tables; away = receiving_tables; opening = 3; scripts = []; entries = offer_entry ∷ arrive_entry ∷ flush_entry ∷ confirm_entry ∷ [] }
-
--- its arrivals are as they are to be, its commits fit, and the slot has arrived
-pub record ExampleIsSent : Type 0 where
-  pub arrivals : AreArrivals example_sent
-  pub home : all_fit sending_tables (commits_of Home example_sent.entries) ≡ true
-  pub away : all_fit receiving_tables (commits_of Away example_sent.entries) ≡ true
-  pub once : count_by (is_copied sent_ref) example_sent.entries ≡ 1

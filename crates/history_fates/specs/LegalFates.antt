@@ -1,4 +1,4 @@
--- The laws of what a legal history commits, and of what becomes of each slot in it.
+-- What the commits of a run make of a database.
 use Rattle.std.specs.Prelude.{◌≡◌, ◌≤◌, ◌<◌, ◌==◌, ◌&&◌, ◌+◌, ◌++◌, ℕ, List, [], ◌∷◌, Bool, true, false, length, All, AllPairs, Some, slice_get}
 use Rattle.std.specs.List.{list_any}
 use Rattle.aq_base.specs.declared.DbId.{DbId}
@@ -6,24 +6,15 @@ use Rattle.aq_base.specs.declared.DbId.TheVariants.{Home, Away}
 use Rattle.queue_rows.specs.Tables.{after}
 use Rattle.queue_rows.specs.Session.{Session, is_same_db}
 use Rattle.queue_rows.specs.Fits.{fits}
-use Rattle.queue_rows.specs.World.{World, database_at, opened, committed_tables, commits_in}
-use Rattle.queue_rows.specs.Legal.{Calls, IsLegal, IsLegalBy, IsLegalHistory}
+use Rattle.queue_rows.specs.World.{World, database_at, committed_tables, commits_in}
 use Rattle.queue_rows.specs.declared.tables.Tables.{Tables}
 use Rattle.queue_rows.specs.declared.change.Change.{Change}
 use Rattle.queue_rows.specs.declared.change.Commit.{Commit}
 use Rattle.queue_rows.specs.declared.history.Entry.{Entry}
-use Rattle.queue_rows.specs.declared.history.History.{History}
-use Rattle.queue_rows.specs.declared.history.SessionScript.{SessionScript}
-use Rattle.queue_rows.specs.declared.reply.Reply.{Reply}
-use Rattle.queue_rows.specs.declared.statement.Statement.{Statement}
-use Rattle.valid_laws.specs.Touching.{are_proper}
 use Rattle.statement_laws.specs.Sessions.{is_addition_of}
 use Rattle.fate_laws.specs.CommitLaws.{IsProperCommit}
-use Rattle.fate_laws.specs.Made.{changes_at, commits_of, changes_of, after_commits, opening_of, tables_after}
+use Rattle.fate_laws.specs.Made.{changes_at, commits_of, changes_of, after_commits}
 use Rattle.fate_laws.specs.Proper.{ids_put_in, AreProper}
-use Rattle.fate_laws.specs.Lasting.{HasFates}
-use Rattle.world_laws.specs.ValidWorld.{IsValidWorld}
-use Rattle.world_laws.specs.WorldLaws.{MayBegin}
 
 -- ---- what was made of a database
 
@@ -71,12 +62,7 @@ pub record AddsEntry (db : DbId) (w new : World) (cs : List Change) (taken : ℕ
   pub count : (database_at db new).made ≡ (database_at db w).made + commits_in cs
   pub next : (database_at db new).next ≡ (database_at db w).next + taken
 
--- ---- the laws
-
--- what a call commits in a valid world is proper
-abbrev pub CallIsProper : Type 0
-CallIsProper = (w new : World) (i : ℕ) (s : Session) (statement : Statement) (reply : Reply) (cs : List Change) (after : Session) → IsValidWorld w
-    → Calls i s statement reply cs after w new → are_proper (database_at s.at w).tables cs ≡ true
+-- ---- the law
 
 -- whoever commits: a proper commit that fits, with ids that are new and no session holds, leaves a database made so
 abbrev pub CommitKeepsMade : Type 0
@@ -84,23 +70,3 @@ CommitKeepsMade = (opening : Tables) (db : DbId) (w new : World) (cs : List Chan
     → IsProperCommit (database_at db w).tables cs ids → AllPairs (λ a b. (a == b) ≡ false) ids → All (IsUnused opening (changes_so_far db w)) ids
     → All (λ id. id < (database_at db w).next + taken) ids → fits (database_at db w).tables (record { moment = w.moment; changes = cs }) ≡ true
     → AreUnused opening (changes_so_far db new) db new.sessions → IsMade opening db new
-
--- each database of a legal world is what its commits made of it
-abbrev pub LegalIsMade : Type 0
-LegalIsMade = (home away : Tables) (scripts : List SessionScript) (readings : List ℕ) (w : World) → MayBegin home away scripts
-    → IsLegal (opened home away scripts) readings w → (db : DbId) → IsMade (opening_at db home away) db w
-
--- so each slot of each message of a legal history has one fate, which stays when it is final, and is removed at most once
-abbrev pub LegalHasFates : Type 0
-LegalHasFates = (home away : Tables) (scripts : List SessionScript) (h : History) → MayBegin home away scripts
-    → IsLegalHistory home away scripts h → (db : DbId) → HasFates db h
-
--- each of its commits fits the tables that those before it leave
-abbrev pub LegalCommitsFit : Type 0
-LegalCommitsFit = (home away : Tables) (scripts : List SessionScript) (h : History) → MayBegin home away scripts
-    → IsLegalHistory home away scripts h → (db : DbId) → all_fit (opening_of db h) (commits_of db h.entries) ≡ true
-
--- the tables that a legal history leads to are those that its commits leave, so what they say of a slot is its fate
-abbrev pub LegalEndsIn : Type 0
-LegalEndsIn = (home away : Tables) (scripts : List SessionScript) (readings : List ℕ) (h : History) → MayBegin home away scripts
-    → (legal : IsLegalBy readings home away scripts h) → (db : DbId) → (database_at db legal.end).tables ≡ tables_after db h

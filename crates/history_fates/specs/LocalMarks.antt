@@ -10,21 +10,18 @@ use Rattle.queue_rows.specs.Session.{Session, is_same_db, marks_slot}
 use Rattle.queue_rows.specs.Meaning.{answers}
 use Rattle.queue_rows.specs.Dequeueing.{dequeue}
 use Rattle.queue_rows.specs.Propagating.{Dispatch, dispatch, confirming}
-use Rattle.queue_rows.specs.World.{World, database_at, opened, committed_tables}
-use Rattle.queue_rows.specs.Legal.{IsLegal}
+use Rattle.queue_rows.specs.World.{committed_tables}
 use Rattle.queue_rows.specs.Valid.{is_valid, is_valid_schedule}
 use Rattle.queue_rows.specs.declared.tables.Tables.{Tables}
 use Rattle.queue_rows.specs.declared.rows.MsgRow.{MsgRow}
 use Rattle.queue_rows.specs.declared.rows.ScheduleRow.{ScheduleRow}
 use Rattle.queue_rows.specs.declared.change.Change.{Change}
-use Rattle.queue_rows.specs.declared.history.SessionScript.{SessionScript}
 use Rattle.queue_rows.specs.declared.history.SlotRef.{SlotRef}
 use Rattle.queue_rows.specs.declared.reply.Reply.{Reply}
 use Rattle.queue_rows.specs.declared.statement.Dequeue.{Dequeue}
 use Rattle.valid_laws.specs.Openness.{is_open_at}
 use Rattle.valid_laws.specs.Touching.{puts_in, are_proper}
 use Rattle.statement_laws.specs.StandingLaws.{AreStanding}
-use Rattle.world_laws.specs.WorldLaws.{MayBegin}
 
 -- it has that slot for a recipient, and it goes to the other database
 abbrev pub is_remote_slot : ℕ → MsgRow → Bool
@@ -49,12 +46,6 @@ abbrev pub DequeueMarksLocal : Type 0
 DequeueMarksLocal = (t : Tables) (sessions : List Session) (actor : ℕ) (s : Session) (ask : Dequeue) (moment : ℕ) (reply : Reply) (cs : List Change) (after : Session)
     → is_valid t ≡ true → dequeue t sessions actor s ask moment ≡ answers reply cs after → (id slot : ℕ)
     → list_any (marks_slot id slot) after.marks ≡ true → (list_any (marks_slot id slot) s.marks ≡ true) ⊎ (is_remote_at t id slot ≡ false)
-
--- so in a legal history no session has marked one
-abbrev pub LegalMarksLocal : Type 0
-LegalMarksLocal = (home away : Tables) (scripts : List SessionScript) (readings : List ℕ) (w : World) → MayBegin home away scripts
-    → IsLegal (opened home away scripts) readings w
-    → (db : DbId) → MarksAreLocal (database_at db w).tables db w.sessions
 
 -- what is sent of valid tables is such a slot
 abbrev pub SentIsRemote : Type 0

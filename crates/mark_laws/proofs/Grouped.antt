@@ -12,20 +12,17 @@ use Rattle.slot_marks.specs.declared.mark.Mark.{Mark}
 use Rattle.queue_rows.specs.Rows.{find_message, find_table, table_of}
 use Rattle.queue_rows.specs.Due.{group_in}
 use Rattle.queue_rows.specs.Groups.{group_of}
-use Rattle.queue_rows.specs.Session.{Session, marks_slot}
-use Rattle.queue_rows.specs.World.{World, database_at}
+use Rattle.queue_rows.specs.Session.{marks_slot}
 use Rattle.queue_rows.specs.declared.tables.Tables.{Tables}
 use Rattle.queue_rows.specs.declared.rows.TableRow.{TableRow}
 use Rattle.queue_rows.specs.declared.rows.MsgRow.{MsgRow}
-use Rattle.message_choice.specs.Sound.{IsInGroups, AreInGroups}
+use Rattle.message_choice.specs.Sound.{IsInGroups}
 use Rattle.valid_laws.specs.Openness.{is_open_at}
 use Rattle.valid_laws.proofs.Opened.{open_at}
-use Rattle.valid_laws.proofs.Parts.{valid_distinct}
 use Rattle.valid_laws.proofs.Cataloguing.{own_name}
-use Rattle.statement_laws.proofs.Among.{Each, IsFoundIn, each_found}
+use Rattle.statement_laws.proofs.Among.{Each, IsFoundIn}
 use Rattle.statement_laws.proofs.Framing.{any_at}
-use Rattle.world_laws.specs.ValidWorld.{IsValidWorld}
-use Rattle.mark_laws.specs.GroupedMarks.{group_at, AreOfGroups, AreGroupedMarks}
+use Rattle.mark_laws.specs.GroupedMarks.{group_at, AreOfGroups}
 use Rattle.mark_laws.proofs.Staying.{group_of_slot}
 use Rattle.mark_laws.proofs.Tabling.{TablesStay}
 
@@ -88,8 +85,3 @@ module _ (t : Tables) where
   pub all_in_groups : (marks : List Mark) (ms : List MsgRow) → AreOfGroups t marks → Each (IsFoundIn t.messages) ms → All (IsInGroups t marks) ms
   all_in_groups marks [] h f = All-nil (IsInGroups t marks)
   all_in_groups marks (m ∷ ms) h f = All-cons (IsInGroups t marks) m ms (message_in_groups marks m h f.0) (all_in_groups marks ms h f.1)
-
-pub grouped_are_in_groups : (w : World) (i : ℕ) (s : Session) → IsValidWorld w → AreGroupedMarks w → slice_get w.sessions i ≡ Some s → AreInGroups (database_at s.at w).tables s.marks
-grouped_are_in_groups w i s v g e =
-    let t = (database_at s.at w).tables in
-    all_in_groups t s.marks t.messages (g i s e) (each_found t.messages (valid_distinct t (v.databases s.at).valid))

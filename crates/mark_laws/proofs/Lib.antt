@@ -2,4 +2,4 @@ pub mod Grouped
 pub mod Looking
 pub mod Staying
 pub mod Tabling
-pub mod Worlds
+pub mod Leaving

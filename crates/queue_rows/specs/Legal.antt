@@ -4,12 +4,16 @@ use Rattle.queue_rows.specs.Session.{Session, Untold}
 use Rattle.queue_rows.specs.Meaning.{answers, parks}
 use Rattle.queue_rows.specs.Statements.{meaning, next_statement}
 use Rattle.queue_rows.specs.World.{World, opened, read_clock, stepped, with_session, uncounted}
-use Rattle.queue_rows.specs.Turns.{called, ended, is_durable, all_durable}
+use Rattle.queue_rows.specs.Propagating.{Arriving}
+use Rattle.queue_rows.specs.Sending.{Sending, offers, arrives, confirms, next_sending, may_follow, sent}
+use Rattle.queue_rows.specs.Turns.{is_due, timed, called, ended, is_durable, all_durable}
 use Rattle.queue_rows.specs.Serial.{Begins}
 use Rattle.queue_rows.specs.declared.tables.Tables.{Tables}
 use Rattle.queue_rows.specs.declared.change.Change.{Change}
 use Rattle.queue_rows.specs.declared.reply.Reply.{Reply}
 use Rattle.queue_rows.specs.declared.statement.Statement.{Statement}
+use Rattle.queue_rows.specs.declared.history.SlotRef.{SlotRef}
+use Rattle.queue_rows.specs.declared.history.Arrival.{Arrival}
 use Rattle.queue_rows.specs.declared.history.Step.{Step}
 use Rattle.queue_rows.specs.declared.history.Step.TheVariants.{Call, Park, Timer, Offer, Arrive, Confirm, Told, Flush, End}
 use Rattle.queue_rows.specs.declared.history.Entry.{Entry}
@@ -42,13 +46,24 @@ last_entry entries = slice_get entries (length entries - 1)
 abbrev pub is_timely : World → ℕ → Step → Bool
 is_timely w actor step = is_late step || is_timely_after (last_entry w.entries) w.readings actor step
 
+-- ---- actors
+
+-- the propagator (65) and the closing turn (66) send
+abbrev pub is_sender : ℕ → Bool
+is_sender actor = (actor == 65) || (actor == 66)
+
+-- a session of the script, the timer (64), or one of those
+abbrev pub is_actor : World → ℕ → Bool
+is_actor w actor = nat_lt actor (length w.sessions) || (actor == 64) || is_sender actor
+
 -- ---- steps
 
--- the session of that number goes on, and was told what it called
+-- the session of that number goes on, and was told what it called; and no work is due
 pub record IsReady (i : ℕ) (s : Session) (w : World) : Type 0 where
   pub there : slice_get w.sessions i ≡ Some s
   pub live : s.live ≡ true
   pub told : s.untold ≡ None
+  pub calm : is_due w ≡ false
 
 -- the next statement is called, and answered as it means
 pub record Calls (i : ℕ) (s : Session) (statement : Statement) (reply : Reply) (cs : List Change) (after : Session) (w new : World) : Type 0 where
@@ -79,8 +94,23 @@ pub record Tells (i : ℕ) (s : Session) (untold : Untold) (w new : World) : Typ
   pub away_durable : untold.away ≤ w.away.durable
   pub result : new ≡ with_session i (record s { untold = None }) (stepped i w [] [] (Told untold.number))
 
+-- work is due, and just this is done
+pub record Times (actor : ℕ) (w new : World) : Type 0 where
+  pub by : is_actor w actor ≡ true
+  pub wanted : is_due w ≡ true
+  pub result : new ≡ timed actor w
+
+-- the step of propagation that comes next, when no work is due and what must be durable before it is
+pub record Sends (actor : ℕ) (sending : Sending) (w new : World) : Type 0 where
+  pub by : is_sender actor ≡ true
+  pub calm : is_due w ≡ false
+  pub next : next_sending w ≡ Some sending
+  pub durable : may_follow w sending ≡ true
+  pub result : new ≡ sent actor sending w
+
 -- some commit is not durable, and then all are
 pub record Flushes (actor : ℕ) (w new : World) : Type 0 where
+  pub by : is_actor w actor ≡ true
   pub wanted : is_durable w ≡ false
   pub result : new ≡ all_durable (stepped actor w [] [] Flush)
 
@@ -105,6 +135,16 @@ pub record TellsSo (i number : ℕ) (w new : World) : Type 0 where
   pub number_is : number ≡ untold.number
   pub tells : Tells i session untold w new
 
+pub record ArrivesSo (actor : ℕ) (at : SlotRef) (outcome : Arrival) (w new : World) : Type 0 where
+  pub arriving : Arriving
+  pub outcome_is : outcome ≡ arriving.outcome
+  pub sends : Sends actor (arrives at arriving) w new
+
+pub record ConfirmsSo (actor : ℕ) (at : SlotRef) (w new : World) : Type 0 where
+  pub number : ℕ
+  pub changes : List Change
+  pub sends : Sends actor (confirms at number changes) w new
+
 -- from w the actor may make this step, and go on to new
 abbrev pub MayStep : ℕ → Step → World → World → Type 0
 MayStep i (Call number reply) w new = CallsSo i number reply w new
@@ -112,10 +152,10 @@ MayStep i (Park number) w new = ParksSo i number w new
 MayStep i (Told number) w new = TellsSo i number w new
 MayStep i Flush w new = Flushes i w new
 MayStep i End w new = (s : Session) × Ends i s w new
-MayStep i Timer w new = ⊥
-MayStep i (Offer at to) w new = ⊥
-MayStep i (Arrive at outcome) w new = ⊥
-MayStep i (Confirm at) w new = ⊥
+MayStep i Timer w new = Times i w new
+MayStep i (Offer at to) w new = Sends i (offers at to) w new
+MayStep i (Arrive at outcome) w new = ArrivesSo i at outcome w new
+MayStep i (Confirm at) w new = ConfirmsSo i at w new
 
 -- ---- worlds and histories
 

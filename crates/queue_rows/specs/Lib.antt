@@ -15,6 +15,7 @@ pub mod Order
 pub mod Propagating
 pub mod Recipients
 pub mod Rows
+pub mod Sending
 pub mod Serial
 pub mod Session
 pub mod Settling

@@ -1,4 +1,4 @@
--- Valid tables: each sentence of the papers is a fact that computes.
+-- Valid tables: each thing that is asked of them is a fact that computes.
 use Rattle.std.specs.Prelude.{ℕ, ◌+◌, ◌==◌, ◌&&◌, ◌||◌, ◌^◌, nat_le, nat_lt, pos, neg_ℤ, int_le, List, length, zip, Bool, true, false, not, Option, Some, None, is_some, is_none, if◌then◌else◌}
 use Rattle.std.specs.List.{list_all}
 use Rattle.std.specs.Option.{option_map_or}

@@ -1,7 +1,9 @@
 -- The examples are serial histories, which are legal.
 use Rattle.std.proofs.Common.{refl}
+use Rattle.queue_rows.specs.Recipients.{recipients}
+use Rattle.queue_rows.specs.Enqueueing.{enqueue}
 use Rattle.queue_rows.specs.Dequeueing.{dequeue}
-use Rattle.queue_rows.specs.Transactions.{rollback}
+use Rattle.queue_rows.specs.Transactions.{commit, rollback}
 use Rattle.queue_rows.specs.Conditions.{optional_condition}
 use Rattle.queue_rows.specs.Tables.{after}
 use Rattle.queue_rows.specs.Due.{due}
@@ -13,14 +15,14 @@ use Rattle.queue_rows.specs.declared.history.History.{History}
 use Rattle.fate_laws.specs.Fates.{fate}
 use Rattle.fate_laws.specs.Made.{after_commits}
 use Rattle.world_laws.specs.WorldLaws.{MayBegin}
-use Rattle.history_fates.specs.Examples.{example_taken, example_given_up}
-use Rattle.run_laws.specs.World.{opened, read_clock, stepped}
-use Rattle.run_laws.specs.Statements.{meaning}
-use Rattle.run_laws.specs.Sending.{next_sending, sent}
-use Rattle.run_laws.specs.Turns.{is_due, caught_up, flushed, propagated, session_turn, telling_turn, any_live, timer_turn, propagator_turn, drained, is_still, closing_turn}
-use Rattle.run_laws.specs.Serial.{round, rounds, IsSerial}
+use Rattle.history_fates.specs.Examples.{example_taken, example_given_up, example_put}
+use Rattle.queue_rows.specs.World.{opened, read_clock, stepped}
+use Rattle.queue_rows.specs.Statements.{meaning}
+use Rattle.queue_rows.specs.Sending.{next_sending, sent}
+use Rattle.queue_rows.specs.Turns.{is_due, caught_up, flushed, propagated, session_turn, telling_turn, any_live, timer_turn, propagator_turn, drained, is_still, closing_turn}
+use Rattle.queue_rows.specs.Serial.{round, rounds, IsSerial}
 use Rattle.run_turns.proofs.Serially.{serial_is_legal}
-use Rattle.run_examples.specs.Examples.{IsLegalSo, example_expired, example_waited, example_sent, ExampleIsTaken, ExampleIsGivenUp, ExampleIsExpired, ExampleIsWaited, ExampleIsSent}
+use Rattle.run_examples.specs.Examples.{IsLegalSo, example_expired, example_waited, example_sent, ExampleIsTaken, ExampleIsGivenUp, ExampleIsPut, ExampleIsExpired, ExampleIsWaited, ExampleIsSent}
 
 legal_if_serial : (h : History) → MayBegin h.home h.away h.scripts → IsSerial h.home h.away h.scripts h → IsLegalSo h
 legal_if_serial h begins s = let legal = serial_is_legal h.home h.away h.scripts h begins s in (_, legal.1)
@@ -50,6 +52,18 @@ given_up_serial = record { begins = record { home_is = refl; away_is = refl; ope
 pub example_is_given_up : ExampleIsGivenUp
 unfolding fate
 example_is_given_up = record { legal = legal_if_serial example_given_up given_up_begins given_up_serial; slot = refl; zero = refl }
+
+put_begins : MayBegin example_put.home example_put.away example_put.scripts
+unfolding is_valid are_within is_within
+put_begins = record { home_valid = refl; away_valid = refl; home_fields = refl; away_fields = refl; may_ask = record { within = refl; ordered = refl } }
+
+put_serial : IsSerial example_put.home example_put.away example_put.scripts example_put
+unfolding rounds round opened read_clock stepped is_due caught_up flushed session_turn telling_turn any_live timer_turn propagator_turn propagated next_sending sent drained is_still closing_turn meaning enqueue commit recipients after optional_condition due pick standing_after arriving confirming cause_of taken_in
+put_serial = record { begins = record { home_is = refl; away_is = refl; opening_is = refl; scripts_are = refl }; turns = record { count = 3; ends = refl; steps = 0; drains = refl; entries_are = refl } }
+
+pub example_is_put : ExampleIsPut
+unfolding fate
+example_is_put = record { legal = legal_if_serial example_put put_begins put_serial; old = refl; new = refl }
 
 -- ---- due work
 

@@ -1,5 +1,5 @@
--- Small histories of which the laws of runs speak: a message is taken; one is given up; one expires; a dequeue waits; and a message is sent
--- to the other database.
+-- Small histories of which the laws of runs speak: a message is taken; one is given up; one is put in; one expires; a dequeue waits; and a
+-- message is sent to the other database.
 use Rattle.std.specs.Prelude.{◌≡◌, ℕ, List, [], ◌∷◌, true, false, None, Some, codes, take, count_by, is_some}
 use Rattle.aq_base.specs.declared.DbId.{DbId}
 use Rattle.aq_base.specs.declared.DbId.TheVariants.{Home, Away}
@@ -25,9 +25,9 @@ use Rattle.fate_laws.specs.Made.{commits_of, tables_after, opening_of}
 use Rattle.fate_laws.specs.Fates.{Fate, ready, processed, expired, fate}
 use Rattle.history_fates.specs.Arrivals.{is_copied}
 use Rattle.history_fates.specs.Durability.{made, durable}
-use Rattle.history_fates.specs.Examples.{script_of, entry_at, example_taken, example_given_up, sending_tables, receiving_tables, sent_ref, copied_message}
+use Rattle.history_fates.specs.Examples.{script_of, entry_at, example_taken, example_given_up, example_put, sending_tables, receiving_tables, sent_ref, copied_message}
 use Rattle.run_fates.specs.DurableRun.{durable_tables_at}
-use Rattle.run_laws.specs.Legal.{IsLegalHistory}
+use Rattle.queue_rows.specs.Legal.{IsLegalHistory}
 
 -- the history is legal, from the tables with which it begins
 abbrev pub IsLegalSo : History → Type 0
@@ -53,6 +53,12 @@ pub record ExampleIsGivenUp : Type 0 where
   pub legal : IsLegalSo example_given_up
   pub slot : HasFate Home example_given_up 1 1 expired
   pub zero : HasFate Home example_given_up 1 0 ready
+
+-- a message is put in beside another one: both are ready
+pub record ExampleIsPut : Type 0 where
+  pub legal : IsLegalSo example_put
+  pub old : HasFate Home example_put 1 1 ready
+  pub new : HasFate Home example_put 2 1 ready
 
 -- ---- due work
 

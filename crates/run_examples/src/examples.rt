@@ -2,6 +2,7 @@
 ghost use Rattle.run_examples.specs.Examples.{
   ExampleIsExpired,
   ExampleIsGivenUp,
+  ExampleIsPut,
   ExampleIsSent,
   ExampleIsTaken,
   ExampleIsWaited,
@@ -15,6 +16,11 @@ pub fn example_is_taken()
 /// A message is rolled back once too often, and goes to the exception queue.
 pub fn example_is_given_up()
     ensures { ExampleIsGivenUp }
+{}
+
+/// A message is put in beside another one: both are ready.
+pub fn example_is_put()
+    ensures { ExampleIsPut }
 {}
 
 /// A message expires, and goes to the exception queue, before a statement is called.

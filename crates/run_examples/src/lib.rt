@@ -4,5 +4,6 @@
 mod examples;
 
 pub use examples::{
-    example_expires, example_is_given_up, example_is_sent, example_is_taken, example_waits,
+    example_expires, example_is_given_up, example_is_put, example_is_sent, example_is_taken,
+    example_waits,
 };

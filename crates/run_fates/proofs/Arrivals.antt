@@ -7,9 +7,9 @@ use Rattle.std.proofs.lemmas.List.{map-append}
 use Rattle.aq_base.specs.declared.DbId.{DbId}
 use Rattle.aq_base.specs.declared.DbId.TheVariants.{Home, Away}
 use Rattle.queue_rows.specs.Session.{is_same_db}
-use Rattle.queue_rows.specs.Propagating.{Dispatch, dispatch, Arriving, arriving}
-use Rattle.queue_rows.specs.World.{uncounted}
-use Rattle.queue_rows.specs.Legal.{last_entry}
+use Rattle.queue_rows.specs.Propagating.{Arriving, arriving}
+use Rattle.queue_rows.specs.World.{uncounted, other_db, World, database_at, opened, read_clock, entry_of}
+use Rattle.queue_rows.specs.Legal.{last_entry, MayStep, IsLegal, opens, reads, steps, IsLegalHistory}
 use Rattle.queue_rows.specs.declared.tables.Tables.{Tables}
 use Rattle.queue_rows.specs.declared.change.Change.{Change}
 use Rattle.queue_rows.specs.declared.history.Entry.{Entry}
@@ -23,21 +23,18 @@ use Rattle.queue_rows.specs.declared.history.Step.TheVariants.{Call, Park, Timer
 use Rattle.statement_laws.proofs.Administering.{same_is}
 use Rattle.fate_laws.specs.Made.{changes_at, commits_of, after_commits, opening_of}
 use Rattle.world_laws.specs.WorldLaws.{MayBegin}
-use Rattle.history_fates.specs.LegalFates.{opening_at, IsMade}
-use Rattle.history_fates.specs.Arrivals.{other_db, IsSeenOnce, is_same_slot, copy_by, tables_at, ArrivesSo, AreArrivals, HasArrivals}
+use Rattle.history_fates.specs.LegalFates.{opening_at}
+use Rattle.history_fates.specs.Arrivals.{IsSeenOnce, is_same_slot, copy_by, tables_at, ArrivesSo, AreArrivals, HasArrivals}
 use Rattle.history_fates.proofs.Arriving.{left_at, AreIn, none_in, more_in, fitting_has_arrivals}
 use Rattle.history_fates.proofs.Lasting.{opening_is, commits_uncounted}
 use Rattle.history_fates.proofs.Seeing.{fitting_sees_once}
-use Rattle.run_laws.specs.World.{World, database_at, opened, read_clock, entry_of}
-use Rattle.run_laws.specs.Sending.{arrives, sent, next_sending, ids_copied}
-use Rattle.run_laws.specs.Legal.{MayStep, IsLegal, opens, reads, steps, IsLegalHistory}
+use Rattle.queue_rows.specs.Sending.{arrives, sent, next_sending, ids_copied}
 use Rattle.run_laws.specs.ValidRun.{IsValidWorld}
-use Rattle.run_laws.proofs.Was.{past, tables_past}
-use Rattle.run_laws.proofs.Sendings.{IsArriving, arrives_so}
+use Rattle.run_laws.proofs.Sendings.{arrives_so}
 use Rattle.run_laws.proofs.Stepping.{Leads, ids_at}
-use Rattle.run_laws.proofs.Worlds.{arrival_changes, other_of, arrival_leads, opens_valid, reading_keeps_valid, step_keeps_valid}
+use Rattle.run_laws.proofs.Worlds.{arrival_changes, other_of, arrival_leads, opens_valid}
 use Rattle.run_turns.proofs.Adding.{Adds, step_adds, arrive_adds, last-snoc}
-use Rattle.run_fates.proofs.Making.{AreMade, step_made, opened_made, made_from}
+use Rattle.run_fates.proofs.Making.{AreMade, opened_made, made_from}
 use Rattle.run_fates.proofs.Lasting.{legal_commits_fit}
 
 -- what leads to a world adds the entry of the step
@@ -69,7 +66,7 @@ module _ (opening : DbId → Tables) where
   quiet_in actor step w new none a k = subst (AreIn opening) (sym a.entries) (more_in opening w.entries (entry_of actor w a.home a.away step) k (λ at id f. absurd (none-some id (sym (none at) ∙ f))))
 
   pub left_is : (w : World) → AreMade opening w → (db : DbId) → (database_at db w).tables ≡ left_at opening db w.entries
-  left_is w m db = sym (tables_past w db) ∙ (m db).tables
+  left_is w m db = (m db).tables
 
   arrival_in : (actor : ℕ) (w : World) (at : SlotRef) (a : Arriving) → AreMade opening w → next_sending w ≡ Some (arrives at a) → AreIn opening w.entries → AreIn opening (sent actor (arrives at a) w).entries
   arrival_in actor w at a m e k =

@@ -4,7 +4,7 @@ use Rattle.std.specs.Prelude.{nat_lt, if◌then◌else◌}
 use Rattle.std.proofs.lemmas.Bool.{and_parts, not-true, ltb-false}
 use Rattle.aq_base.specs.declared.DbId.{DbId}
 use Rattle.aq_base.specs.declared.DbId.TheVariants.{Home, Away}
-use Rattle.queue_rows.specs.Turns.{step_readings}
+use Rattle.queue_rows.specs.Turns.{step_readings, is_durable, all_durable, flushed, drained, closing_turn}
 use Rattle.queue_rows.specs.declared.tables.Tables.{Tables}
 use Rattle.queue_rows.specs.declared.history.History.{History}
 use Rattle.queue_rows.specs.declared.history.SessionScript.{SessionScript}
@@ -12,11 +12,10 @@ use Rattle.world_laws.specs.WorldLaws.{MayBegin}
 use Rattle.history_fates.specs.Durability.{until_flush, made, durable}
 use Rattle.history_fates.proofs.Telling.{until_uncounted, made_uncounted}
 use Rattle.queue_rows.specs.declared.history.Step.TheVariants.{Flush}
-use Rattle.run_laws.specs.World.{World, database_at, opened, stepped}
-use Rattle.run_laws.specs.Sending.{is_durable_at}
-use Rattle.run_laws.specs.Turns.{is_durable, all_durable, flushed, drained, closing_turn}
-use Rattle.run_laws.specs.Serial.{rounds, at_closing, next_closing_turn, IsSerial}
-use Rattle.run_laws.specs.Legal.{opens}
+use Rattle.queue_rows.specs.World.{World, database_at, opened, stepped}
+use Rattle.queue_rows.specs.Sending.{is_durable_at}
+use Rattle.queue_rows.specs.Serial.{rounds, at_closing, next_closing_turn, IsSerial}
+use Rattle.queue_rows.specs.Legal.{opens}
 use Rattle.run_laws.proofs.Worlds.{opens_valid}
 use Rattle.run_turns.proofs.Calling.{entries-opened}
 use Rattle.run_turns.proofs.Legally.{IsOnClock, rounds_on, closing_on}

@@ -9,10 +9,9 @@ use Rattle.aq_base.specs.declared.DbId.{DbId}
 use Rattle.aq_base.specs.declared.DbId.TheVariants.{Home, Away}
 use Rattle.queue_rows.specs.Rows.{find_message}
 use Rattle.queue_rows.specs.Propagating.{has_seen, is_pair}
-use Rattle.queue_rows.specs.World.{committed_tables, commits_in, uncounted}
+use Rattle.queue_rows.specs.World.{committed_tables, commits_in, uncounted, other_db, World, Transit, on_its_way, database_at, opened, read_clock}
 use Rattle.queue_rows.specs.declared.tables.Tables.{Tables}
 use Rattle.queue_rows.specs.declared.rows.SeenRow.{SeenRow}
-use Rattle.queue_rows.specs.declared.change.Change.{Change}
 use Rattle.queue_rows.specs.declared.history.Entry.{Entry}
 use Rattle.queue_rows.specs.declared.history.History.{History}
 use Rattle.queue_rows.specs.declared.history.SlotRef.{SlotRef}
@@ -24,15 +23,13 @@ use Rattle.queue_rows.specs.declared.history.Step.TheVariants.{Call, Park, Timer
 use Rattle.fate_laws.specs.Made.{commits_of, after_commits}
 use Rattle.world_laws.specs.WorldLaws.{MayBegin}
 use Rattle.history_fates.specs.LegalFates.{opening_at}
-use Rattle.history_fates.specs.Arrivals.{other_db, is_same_slot, copy_by, is_copied}
+use Rattle.history_fates.specs.Arrivals.{is_same_slot, copy_by, is_copied}
 use Rattle.history_fates.specs.Durability.{is_flush, until_flush}
 use Rattle.history_fates.proofs.Arriving.{left_at}
 use Rattle.history_fates.proofs.Commits.{last_or_before, no_items, empty_if}
 use Rattle.history_fates.proofs.Lasting.{opening_is, commits_uncounted}
 use Rattle.history_fates.proofs.Telling.{until-flush, until-other, until_uncounted}
-use Rattle.run_laws.specs.World.{World, Transit, on_its_way, came, database_at, opened, read_clock}
-use Rattle.run_laws.specs.Sending.{arrives, confirms}
-use Rattle.run_laws.specs.Legal.{MayStep, IsLegal, opens, reads, steps, IsLegalHistory}
+use Rattle.queue_rows.specs.Legal.{MayStep, IsLegal, opens, reads, steps, IsLegalHistory}
 use Rattle.run_laws.specs.ValidRun.{IsValidWorld}
 use Rattle.run_laws.proofs.Sendings.{arrives_so, confirms_so}
 use Rattle.run_laws.proofs.Worlds.{opens_valid, step_keeps_valid}

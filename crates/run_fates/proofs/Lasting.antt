@@ -3,7 +3,7 @@ use Rattle.std.proofs.Common.{◌≡◌, ℕ, List, refl, sym, ap, ◌∙◌, su
 use Rattle.std.specs.Prelude.{map}
 use Rattle.aq_base.specs.declared.DbId.{DbId}
 use Rattle.aq_base.specs.declared.DbId.TheVariants.{Home, Away}
-use Rattle.queue_rows.specs.World.{uncounted}
+use Rattle.queue_rows.specs.World.{World, database_at}
 use Rattle.queue_rows.specs.Valid.{is_valid}
 use Rattle.queue_rows.specs.declared.tables.Tables.{Tables}
 use Rattle.queue_rows.specs.declared.history.History.{History}
@@ -15,9 +15,7 @@ use Rattle.fate_laws.proofs.Fating.{proper_has_fates}
 use Rattle.world_laws.specs.WorldLaws.{MayBegin}
 use Rattle.history_fates.specs.LegalFates.{opening_at, all_fit, IsMade}
 use Rattle.history_fates.proofs.Lasting.{commits_uncounted, opening_is}
-use Rattle.run_laws.specs.World.{World, database_at}
-use Rattle.run_laws.specs.Legal.{IsLegalBy, IsLegalHistory}
-use Rattle.run_laws.proofs.Was.{past, tables_past}
+use Rattle.queue_rows.specs.Legal.{IsLegalBy, IsLegalHistory}
 use Rattle.run_fates.proofs.Making.{legal_is_sound}
 
 opening_valid : (home away : Tables) (scripts : List SessionScript) → MayBegin home away scripts → (db : DbId) → is_valid (opening_at db home away) ≡ true
@@ -28,7 +26,7 @@ module _ (home away : Tables) (scripts : List SessionScript) (readings : List �
   abbrev end : World
   end = legal.end
 
-  made : IsMade (opening_at db home away) db (past end)
+  made : IsMade (opening_at db home away) db end
   made = (legal_is_sound home away scripts readings end b legal.legal).made db
 
   from : opening_of db h ≡ opening_at db home away
@@ -46,7 +44,7 @@ module _ (home away : Tables) (scripts : List SessionScript) (readings : List �
   fit = ap (λ t. all_fit t (commits_of db h.entries)) from ∙ ap (all_fit (opening_at db home away)) (sym same_commits) ∙ made.fit
 
   pub ends : (database_at db legal.end).tables ≡ tables_after db h
-  ends = sym (tables_past end db) ∙ made.tables ∙ ap (after_commits (opening_at db home away)) same_commits ∙ ap (λ t. after_commits t (commits_of db h.entries)) (sym from)
+  ends = made.tables ∙ ap (after_commits (opening_at db home away)) same_commits ∙ ap (λ t. after_commits t (commits_of db h.entries)) (sym from)
 
 pub legal_has_fates : (home away : Tables) (scripts : List SessionScript) (h : History) → MayBegin home away scripts → IsLegalHistory home away scripts h → (db : DbId) → HasFates db h
 legal_has_fates home away scripts h b legal db = fates home away scripts legal.0 h b legal.1 db

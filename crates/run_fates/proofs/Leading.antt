@@ -6,9 +6,8 @@ use Rattle.std.proofs.lemmas.Option.{none-some, slice_get_within}
 use Rattle.aq_base.specs.declared.DbId.{DbId}
 use Rattle.aq_base.specs.declared.DbId.TheVariants.{Home, Away}
 use Rattle.queue_rows.specs.Session.{Session, Untold}
-use Rattle.queue_rows.specs.World.{at_home, at_away}
-use Rattle.queue_rows.specs.Turns.{ids_taken}
-use Rattle.queue_rows.specs.Propagating.{Arriving}
+use Rattle.queue_rows.specs.World.{at_home, at_away, other_db, World, on_its_way, came, database_at, stepped, with_session}
+use Rattle.queue_rows.specs.Turns.{ids_taken, due_at, timed, having_called, called_in, called, all_durable}
 use Rattle.queue_rows.specs.declared.change.Change.{Change}
 use Rattle.queue_rows.specs.declared.reply.Reply.{Reply}
 use Rattle.queue_rows.specs.declared.history.SlotRef.{SlotRef}
@@ -17,14 +16,11 @@ use Rattle.queue_rows.specs.declared.history.Arrival.TheVariants.{Copied, Seen, 
 use Rattle.queue_rows.specs.declared.history.Step.{Step}
 use Rattle.queue_rows.specs.declared.history.Step.TheVariants.{Call, Park, Timer, Offer, Arrive, Confirm, Told, Flush, End}
 use Rattle.queue_rows.proofs.Sessions.{get_set-cases}
-use Rattle.history_fates.specs.Arrivals.{other_db}
-use Rattle.history_fates.specs.Durability.{is_flush, is_call_step}
-use Rattle.run_laws.specs.World.{World, Stage, on_its_way, came, Transit, database_at, stepped, with_session}
-use Rattle.run_laws.specs.Sending.{taking_ids, with_transit, sent, offers, arrives, confirms, ids_copied, home_of, away_of, pair_number, transit_after, is_durable_at}
-use Rattle.run_laws.specs.Turns.{due_at, timed, having_called, called_in, called, all_durable}
-use Rattle.run_laws.specs.Legal.{MayStep}
-use Rattle.run_laws.proofs.Stepping.{Leads, no_changes, no_ids, only_at, ids_at, world_at, called_at, call_leads, call_transit, step_sessions, step_transit, leads_with_session, leads_with_transit, leads_durable}
-use Rattle.run_laws.proofs.Worlds.{quiet_leads, timed_leads, due_changes, arrival_changes, arrival_leads, arrival_sessions, arrival_transit, confirm_leads, confirm_sessions}
+use Rattle.history_fates.specs.Durability.{is_flush}
+use Rattle.queue_rows.specs.Sending.{sent, offers, arrives, confirms, ids_copied, home_of, away_of, pair_number, transit_after, is_durable_at}
+use Rattle.queue_rows.specs.Legal.{MayStep}
+use Rattle.run_laws.proofs.Stepping.{Leads, no_changes, no_ids, only_at, ids_at, world_at, call_leads, call_transit, step_sessions, step_transit, leads_with_session, leads_with_transit, leads_durable}
+use Rattle.run_laws.proofs.Worlds.{quiet_leads, timed_leads, due_changes, arrival_changes, arrival_leads, arrival_transit, confirm_leads}
 use Rattle.run_turns.proofs.Adding.{Adds, step_adds, sessions-sent}
 use Rattle.run_turns.proofs.Sounding.{StaysDurable, stays_stepped, stays_session, stays_transit, stays_standing, stays_taking, arrival_stays, other_stage}
 use Rattle.run_fates.proofs.Arrivals.{entry_is}

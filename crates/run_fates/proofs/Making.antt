@@ -7,106 +7,87 @@ use Rattle.std.proofs.lemmas.Option.{slice_get_within}
 use Rattle.std.proofs.lemmas.List.Elements.{All-nil, All-cons, All-weaker}
 use Rattle.aq_base.specs.declared.DbId.{DbId}
 use Rattle.aq_base.specs.declared.DbId.TheVariants.{Home, Away}
-use Rattle.queue_rows.specs.Session.{Session, is_same_db, standing_after}
+use Rattle.queue_rows.specs.Session.{Session, is_same_db}
 use Rattle.queue_rows.specs.Meaning.{answers}
-use Rattle.queue_rows.specs.Turns.{ids_taken}
+use Rattle.queue_rows.specs.Turns.{ids_taken, due_at, timed, having_called, called, all_durable}
 use Rattle.queue_rows.specs.Propagating.{Dispatch, Arriving}
 use Rattle.queue_rows.specs.Valid.{is_valid_schedule}
-use Rattle.queue_rows.specs.World as old
-use Rattle.queue_rows.specs.Fits.{fits}
 use Rattle.queue_rows.specs.declared.tables.Tables.{Tables}
 use Rattle.queue_rows.specs.declared.change.Change.{Change}
 use Rattle.queue_rows.specs.declared.history.SlotRef.{SlotRef}
 use Rattle.queue_rows.specs.declared.history.SessionScript.{SessionScript}
-use Rattle.queue_rows.specs.declared.history.Arrival.TheVariants.{Copied, Seen, Failed}
 use Rattle.queue_rows.specs.declared.history.Step.{Step}
 use Rattle.queue_rows.specs.declared.history.Step.TheVariants.{Call, Park, Timer, Offer, Arrive, Confirm, Told, Flush, End}
 use Rattle.queue_rows.specs.declared.reply.Reply.{Reply}
 use Rattle.queue_rows.specs.declared.statement.Statement.{Statement}
 use Rattle.valid_laws.proofs.Pending.{pairs-one}
 use Rattle.statement_laws.specs.Sessions.{is_addition_of}
-use Rattle.statement_laws.specs.StandingLaws.{AreStanding}
 use Rattle.statement_laws.proofs.Administering.{same_is}
 use Rattle.fate_laws.specs.CommitLaws.{IsProperCommit}
-use Rattle.fate_laws.specs.Made.{commits_of, changes_of}
 use Rattle.fate_laws.specs.Proper.{ids_put_in}
 use Rattle.fate_laws.proofs.Committing.{due_is_proper, arrival_is_proper, confirmation_is_proper}
 use Rattle.world_laws.specs.WorldLaws.{MayBegin}
-use Rattle.history_fates.specs.Arrivals.{other_db}
+use Rattle.queue_rows.specs.World.{other_db, World, Transit, on_its_way, came, database_at, opened, read_clock, stepped, with_session}
 use Rattle.history_fates.specs.LegalFates.{opening_at, changes_so_far, IsUnused, AreUnused, IsMade, AddsEntry}
 use Rattle.history_fates.proofs.Giving.{Gives, added_below}
-use Rattle.history_fates.proofs.Making.{own_db, own_made, quiet_made, unused_quiet, unused_more, commit_keeps_made}
-use Rattle.history_fates.proofs.Making as before
-use Rattle.run_laws.specs.World.{World, Database, Transit, on_its_way, came, database_at, opened, read_clock, stepped, with_session}
-use Rattle.run_laws.specs.Sending.{sent, offers, arrives, confirms, next_sending, ids_copied, with_transit}
-use Rattle.run_laws.specs.Statements.{slot_sent, meaning, next_statement}
-use Rattle.run_laws.specs.Turns.{due_at, timed, having_called, called, all_durable}
-use Rattle.run_laws.specs.Legal.{MayStep, IsLegal, opens, reads, steps}
-use Rattle.run_laws.specs.ValidRun.{IsBeingSent, IsValidWorld}
-use Rattle.run_laws.proofs.Was.{past, tables_past, next_past}
+use Rattle.history_fates.proofs.Making.{own_db, own_made, quiet_made, unused_quiet, unused_more, commit_keeps_made, opened_made}
+use Rattle.queue_rows.specs.Sending.{sent, offers, arrives, confirms, next_sending, ids_copied, with_transit}
+use Rattle.queue_rows.specs.Statements.{slot_sent, meaning, next_statement}
+use Rattle.queue_rows.specs.Legal.{MayStep, IsLegal, opens, reads, steps}
+use Rattle.run_laws.specs.ValidRun.{IsValidWorld}
 use Rattle.run_laws.proofs.Arriving.{ArrivesAs, as_seen, as_failed, as_copied}
 use Rattle.run_laws.proofs.Calling.{call_fits, call_gives}
-use Rattle.run_laws.proofs.Committing.{Commits, quiet_commits, timed_commits, confirm_commits, arrival_commits, arrives_here}
+use Rattle.run_laws.proofs.Committing.{Commits, timed_commits, confirm_commits, arrival_commits, arrives_here}
 use Rattle.run_laws.proofs.Positions.{was_at}
 use Rattle.run_laws.proofs.Resting.{sent_open}
 use Rattle.run_laws.proofs.Sendings.{confirms_so}
 use Rattle.run_laws.proofs.Stepping.{Leads, no_changes, no_ids, only_at, ids_at, world_at, called_at, call_leads, call_sessions, step_sessions, leads_with_session, leads_with_transit, leads_durable}
-use Rattle.run_laws.proofs.Working.{schedule_valid, taken_is}
-use Rattle.run_laws.proofs.Worlds.{quiet_leads, timed_leads, due_changes, arrival_changes, own_of, other_of, is_one, ids_own, ids_other, arrival_leads, arrival_sessions, confirm_leads, confirm_sessions, sends_on, opens_valid, reading_keeps_valid, step_keeps_valid}
-
--- ---- as the laws of the past worlds see it
-
-pub made_past : (w : World) (db : DbId) → (old.database_at db (past w)).made ≡ (database_at db w).made
-made_past w Home = refl
-made_past w Away = refl
+use Rattle.run_laws.proofs.Working.{schedule_valid}
+use Rattle.run_laws.proofs.Worlds.{quiet_leads, timed_leads, due_changes, arrival_changes, own_of, other_of, is_one, ids_other, arrival_leads, arrival_sessions, confirm_leads, confirm_sessions, sends_on, opens_valid, reading_keeps_valid, step_keeps_valid}
 
 -- what is added, at one database
-adds_past : (w new : World) (cs : DbId → List Change) (taken : DbId → ℕ) (db : DbId) → Leads w new cs taken → AddsEntry db (past w) (past new) (cs db) (taken db)
-adds_past w new cs taken Home b = record { entry = b.entry; entries = b.entries; changes = b.changes Home; moment = b.at_moment; tables = b.tables Home; count = b.count Home; next = b.next Home }
-adds_past w new cs taken Away b = record { entry = b.entry; entries = b.entries; changes = b.changes Away; moment = b.at_moment; tables = b.tables Away; count = b.count Away; next = b.next Away }
+adds_one : (w new : World) (cs : DbId → List Change) (taken : DbId → ℕ) (db : DbId) → Leads w new cs taken → AddsEntry db w new (cs db) (taken db)
+adds_one w new cs taken Home b = record { entry = b.entry; entries = b.entries; changes = b.changes Home; moment = b.at_moment; tables = b.tables Home; count = b.count Home; next = b.next Home }
+adds_one w new cs taken Away b = record { entry = b.entry; entries = b.entries; changes = b.changes Away; moment = b.at_moment; tables = b.tables Away; count = b.count Away; next = b.next Away }
 
 -- sessions say of a database only what they have added
-with_sessions : (opening : Tables) (db : DbId) (x : old.World) (ys : List Session) → IsMade opening db x → AreUnused opening (changes_so_far db x) db ys → IsMade opening db (record x { sessions = ys })
+with_sessions : (opening : Tables) (db : DbId) (x : World) (ys : List Session) → IsMade opening db x → AreUnused opening (changes_so_far db x) db ys → IsMade opening db (record x { sessions = ys })
 with_sessions opening Home x ys m u = record { tables = m.tables; count = m.count; fit = m.fit; proper = m.proper; first = m.first; given = m.given; held = u }
 with_sessions opening Away x ys m u = record { tables = m.tables; count = m.count; fit = m.fit; proper = m.proper; first = m.first; given = m.given; held = u }
 
 module _ (opening : DbId → Tables) where
   abbrev pub AreMade : World → Type 0
-  AreMade w = (db : DbId) → IsMade (opening db) db (past w)
+  AreMade w = (db : DbId) → IsMade (opening db) db w
 
   -- ---- steps of no session
 
-  standing_past : (w : World) (db : DbId) → IsValidWorld w → AreStanding (old.database_at db (past w)).tables db (old.database_at db (past w)).next w.moment w.sessions
-  standing_past w db v = subst (λ t. AreStanding t db (old.database_at db (past w)).next w.moment w.sessions) (sym (tables_past w db)) (subst (λ n. AreStanding (database_at db w).tables db n w.moment w.sessions) (sym (next_past w db)) (v.databases db).standing)
-
   -- a commit that puts in messages with ids from the next one on
   commit_made : (w new : World) (cs : DbId → List Change) (taken : DbId → ℕ) (db : DbId) (ids : List ℕ) → IsValidWorld w → AreMade w → Leads w new cs taken → Commits w cs → ids_put_in (cs db) ≡ ids → AllPairs (λ a b. (a == b) ≡ false) ids
-      → All (λ id. ((database_at db w).next ≤ id) × (id < (database_at db w).next + taken db)) ids → new.sessions ≡ w.sessions → IsMade (opening db) db (past new)
+      → All (λ id. ((database_at db w).next ≤ id) × (id < (database_at db w).next + taken db)) ids → new.sessions ≡ w.sessions → IsMade (opening db) db new
   commit_made w new cs taken db ids v m b c put apart range same =
       let at = c db in
-      let n = next_past w db in
-      let a = adds_past w new cs taken db b in
-      let proper : IsProperCommit (old.database_at db (past w)).tables (cs db) ids = subst (λ t. IsProperCommit t (cs db) ids) (sym (tables_past w db)) (record { proper = at.proper; ids_are = put }) in
+      let a = adds_one w new cs taken db b in
+      let proper : IsProperCommit (database_at db w).tables (cs db) ids = record { proper = at.proper; ids_are = put } in
       let k = m db in
-      commit_keeps_made (opening db) db (past w) (past new) (cs db) (taken db) ids k a proper apart
-      (All-weaker (λ id. ((database_at db w).next ≤ id) × (id < (database_at db w).next + taken db)) (IsUnused (opening db) (changes_so_far db (past w)))
+      commit_keeps_made (opening db) db w new (cs db) (taken db) ids k a proper apart
+      (All-weaker (λ id. ((database_at db w).next ≤ id) × (id < (database_at db w).next + taken db)) (IsUnused (opening db) (changes_so_far db w))
       (λ id r. record {
-        later = let f = k.first in let x = r.0 in omega (arith, f, x, n);
-        new = All-weaker (λ e. e < (old.database_at db (past w)).next) (λ e. (e == id) ≡ false) (λ e lt. ne_eqb e id (λ q. absurd (let x = r.0 in omega (arith, lt, x, q, n)))) (ids_put_in (changes_so_far db (past w))) k.given;
+        later = let f = k.first in let x = r.0 in omega (arith, f, x);
+        new = All-weaker (λ e. e < (database_at db w).next) (λ e. (e == id) ≡ false) (λ e lt. ne_eqb e id (λ q. absurd (let x = r.0 in omega (arith, lt, x, q)))) (ids_put_in (changes_so_far db w)) k.given;
       }) ids range)
-      (All-weaker (λ id. ((database_at db w).next ≤ id) × (id < (database_at db w).next + taken db)) (λ id. id < (old.database_at db (past w)).next + taken db) (λ id r. let x = r.1 in omega (arith, x, n)) ids range)
-      (ap (λ t. fits t (record { moment = w.moment; changes = cs db })) (tables_past w db) ∙ at.fit)
+      (All-weaker (λ id. ((database_at db w).next ≤ id) × (id < (database_at db w).next + taken db)) (λ id. id < (database_at db w).next + taken db) (λ id r. r.1) ids range)
+      at.fit
       (λ j y e f id h.
       let old_y : slice_get w.sessions j ≡ Some y = ap (λ xs. slice_get xs j) (sym same) ∙ e in
       let below = added_below (database_at db w).next id y.pending ((v.databases db).standing.each j y old_y f).given h in
-      unused_more (opening db) db (past w) (past new) (taken db) (cs db) ids k a proper id (k.held j y old_y f id h)
+      unused_more (opening db) db w new (taken db) (cs db) ids k a proper id (k.held j y old_y f id h)
       (All-weaker (λ e. ((database_at db w).next ≤ e) × (e < (database_at db w).next + taken db)) (λ e. (e == id) ≡ false) (λ e r. ne_eqb e id (λ q. absurd (let x = r.0 in omega (arith, below, x, q)))) ids range))
 
   no_pairs : AllPairs (λ (a b : ℕ). (a == b) ≡ false) []
   no_pairs = λ i j d lt at. absurd (let no : j < 0 = at in omega arith)
 
   -- nothing is put in
-  none_made : (w new : World) (cs : DbId → List Change) (taken : DbId → ℕ) (db : DbId) → IsValidWorld w → AreMade w → Leads w new cs taken → Commits w cs → ids_put_in (cs db) ≡ [] → new.sessions ≡ w.sessions → IsMade (opening db) db (past new)
+  none_made : (w new : World) (cs : DbId → List Change) (taken : DbId → ℕ) (db : DbId) → IsValidWorld w → AreMade w → Leads w new cs taken → Commits w cs → ids_put_in (cs db) ≡ [] → new.sessions ≡ w.sessions → IsMade (opening db) db new
   none_made w new cs taken db v m b c put same = commit_made w new cs taken db [] v m b c put no_pairs (All-nil (λ id. ((database_at db w).next ≤ id) × (id < (database_at db w).next + taken db))) same
 
   -- ---- steps of a session that commit nothing
@@ -115,13 +96,13 @@ module _ (opening : DbId → Tables) where
       → AreMade (with_session i behind (stepped actor w [] [] step))
   quiet_set w actor i step s behind m there same no_more db =
       let new = with_session i behind (stepped actor w [] [] step) in
-      quiet_made (opening db) db (past w) (past new) (adds_past w new no_changes no_ids db (leads_with_session w (stepped actor w [] [] step) no_changes no_ids i behind (quiet_leads actor w step)))
-      (subst (AreUnused (opening db) (changes_so_far db (past w)) db) (sym (ap (λ xs. slice_set xs i behind) (step_sessions actor w [] [] step)))
-      (unused_quiet (opening db) db (changes_so_far db (past w)) i s behind w.sessions (m db).held there (λ at. (ap (λ d. is_same_db d db) (sym same) ∙ at, no_more)))) (m db)
+      quiet_made (opening db) db w new (adds_one w new no_changes no_ids db (leads_with_session w (stepped actor w [] [] step) no_changes no_ids i behind (quiet_leads actor w step)))
+      (subst (AreUnused (opening db) (changes_so_far db w) db) (sym (ap (λ xs. slice_set xs i behind) (step_sessions actor w [] [] step)))
+      (unused_quiet (opening db) db (changes_so_far db w) i s behind w.sessions (m db).held there (λ at. (ap (λ d. is_same_db d db) (sym same) ∙ at, no_more)))) (m db)
 
   quiet_same : (w new : World) → AreMade w → Leads w new no_changes no_ids → new.sessions ≡ w.sessions → AreMade new
   quiet_same w new m b same db =
-      quiet_made (opening db) db (past w) (past new) (adds_past w new no_changes no_ids db b) (subst (AreUnused (opening db) (changes_so_far db (past w)) db) (sym same) (m db).held) (m db)
+      quiet_made (opening db) db w new (adds_one w new no_changes no_ids db b) (subst (AreUnused (opening db) (changes_so_far db w) db) (sym same) (m db).held) (m db)
 
   -- ---- a call
 
@@ -137,36 +118,34 @@ module _ (opening : DbId → Tables) where
     set = slice_set w.sessions i behind
 
     -- the world behind it, but for positions
-    abbrev middle : old.World
-    middle = record (past new_world) { sessions = set }
+    abbrev middle : World
+    middle = record new_world { sessions = set }
 
-    middle_adds : (db : DbId) → AddsEntry db (past w) middle (only_at s.at cs db) (ids_at s.at (ids_taken reply) db)
-    middle_adds Home = let a = adds_past w new_world (only_at s.at cs) (ids_at s.at (ids_taken reply)) Home (call_leads w i s reply cs after s.at) in
+    middle_adds : (db : DbId) → AddsEntry db w middle (only_at s.at cs db) (ids_at s.at (ids_taken reply) db)
+    middle_adds Home = let a = adds_one w new_world (only_at s.at cs) (ids_at s.at (ids_taken reply)) Home (call_leads w i s reply cs after s.at) in
         record { entry = a.entry; entries = a.entries; changes = a.changes; moment = a.moment; tables = a.tables; count = a.count; next = a.next }
-    middle_adds Away = let a = adds_past w new_world (only_at s.at cs) (ids_at s.at (ids_taken reply)) Away (call_leads w i s reply cs after s.at) in
+    middle_adds Away = let a = adds_one w new_world (only_at s.at cs) (ids_at s.at (ids_taken reply)) Away (call_leads w i s reply cs after s.at) in
         record { entry = a.entry; entries = a.entries; changes = a.changes; moment = a.moment; tables = a.tables; count = a.count; next = a.next }
 
-    gives_past : (ids : List ℕ) → Gives (database_at s.at w).tables (database_at s.at w).next (ids_taken reply) s after cs ids → Gives (old.database_at s.at (past w)).tables (old.database_at s.at (past w)).next (ids_taken reply) s behind cs ids
-    gives_past ids g =
-        let b : Gives (database_at s.at w).tables (database_at s.at w).next (ids_taken reply) s behind cs ids = record { commit = g.commit; apart = g.apart; from = g.from; left = g.left; gone = g.gone } in
-        subst (λ t. Gives t (old.database_at s.at (past w)).next (ids_taken reply) s behind cs ids) (sym (tables_past w s.at)) (subst (λ n. Gives (database_at s.at w).tables n (ids_taken reply) s behind cs ids) (sym (next_past w s.at)) b)
+    gives_behind : (ids : List ℕ) → Gives (database_at s.at w).tables (database_at s.at w).next (ids_taken reply) s after cs ids → Gives (database_at s.at w).tables (database_at s.at w).next (ids_taken reply) s behind cs ids
+    gives_behind ids g = record { commit = g.commit; apart = g.apart; from = g.from; left = g.left; gone = g.gone }
 
-    own_adds : (db : DbId) → is_same_db s.at db ≡ true → AddsEntry db (past w) middle cs (ids_taken reply)
-    own_adds db e = subst (λ n. AddsEntry db (past w) middle cs n) (ap (λ b. if b then ids_taken reply else 0) e) (subst (λ ds. AddsEntry db (past w) middle ds (ids_at s.at (ids_taken reply) db)) (ap (λ b. if b then cs else []) e) (middle_adds db))
+    own_adds : (db : DbId) → is_same_db s.at db ≡ true → AddsEntry db w middle cs (ids_taken reply)
+    own_adds db e = subst (λ n. AddsEntry db w middle cs n) (ap (λ b. if b then ids_taken reply else 0) e) (subst (λ ds. AddsEntry db w middle ds (ids_at s.at (ids_taken reply) db)) (ap (λ b. if b then cs else []) e) (middle_adds db))
 
-    other_adds : (db : DbId) → is_same_db s.at db ≡ false → AddsEntry db (past w) middle [] 0
-    other_adds db e = subst (λ n. AddsEntry db (past w) middle [] n) (ap (λ b. if b then ids_taken reply else 0) e) (subst (λ ds. AddsEntry db (past w) middle ds (ids_at s.at (ids_taken reply) db)) (ap (λ b. if b then cs else []) e) (middle_adds db))
+    other_adds : (db : DbId) → is_same_db s.at db ≡ false → AddsEntry db w middle [] 0
+    other_adds db e = subst (λ n. AddsEntry db w middle [] n) (ap (λ b. if b then ids_taken reply else 0) e) (subst (λ ds. AddsEntry db w middle ds (ids_at s.at (ids_taken reply) db)) (ap (λ b. if b then cs else []) e) (middle_adds db))
 
     middle_own : IsMade (opening s.at) s.at middle
     middle_own =
         let x = call_gives w i s statement reply cs after v there next means in
-        own_made (opening s.at) s.at (past w) middle i (ids_taken reply) s behind cs x.0 (m s.at) (standing_past w s.at v) there (own_db s.at) (gives_past x.0 x.1) (own_adds s.at (own_db s.at))
-        (ap (λ t. fits t (record { moment = w.moment; changes = cs })) (tables_past w s.at) ∙ call_fits w i s statement reply cs after v there next means) refl
+        own_made (opening s.at) s.at w middle i (ids_taken reply) s behind cs x.0 (m s.at) (v.databases s.at).standing there (own_db s.at) (gives_behind x.0 x.1) (own_adds s.at (own_db s.at))
+        (call_fits w i s statement reply cs after v there next means) refl
 
     middle_by : (db : DbId) (b : Bool) → is_same_db s.at db ≡ b → IsMade (opening db) db middle
     middle_by db true e = subst (λ d. IsMade (opening d) d middle) (same_is s.at db e) middle_own
     middle_by db false e =
-        quiet_made (opening db) db (past w) middle (other_adds db e) (unused_quiet (opening db) db (changes_so_far db (past w)) i s behind w.sessions (m db).held there (λ at. absurd (false≢true (sym e ∙ at)))) (m db)
+        quiet_made (opening db) db w middle (other_adds db e) (unused_quiet (opening db) db (changes_so_far db w) i s behind w.sessions (m db).held there (λ at. absurd (false≢true (sym e ∙ at)))) (m db)
 
     call_made : AreMade (called i s reply cs after w)
     call_made db =
@@ -239,15 +218,15 @@ module _ (opening : DbId → Tables) where
   arrival_made : (w : World) (actor : ℕ) (at : SlotRef) (a : Arriving) → IsValidWorld w → AreMade w → next_sending w ≡ Some (arrives at a) → AreMade (sent actor (arrives at a) w)
   arrival_made w actor at a v m e db = by (arrival_ids w at a v e) db (is_one at.db db)
     where
-      by : (ids : List ℕ) × IdsThere w at a ids → (db : DbId) → (db ≡ at.db) ⊎ (db ≡ other_db at.db) → IsMade (opening db) db (past (sent actor (arrives at a) w))
+      by : (ids : List ℕ) × IdsThere w at a ids → (db : DbId) → (db ≡ at.db) ⊎ (db ≡ other_db at.db) → IsMade (opening db) db (sent actor (arrives at a) w)
       by x db (inl p) =
-          subst (λ d. IsMade (opening d) d (past (sent actor (arrives at a) w))) (sym p)
+          subst (λ d. IsMade (opening d) d (sent actor (arrives at a) w)) (sym p)
           (none_made w (sent actor (arrives at a) w) (arrival_changes at a) (ids_at (other_db at.db) (ids_copied a.outcome)) at.db v m (arrival_leads actor w at a) (arrival_commits w v at a e)
           (ap ids_put_in (own_of at.db a.origin a.there) ∙ x.1.origin_are) (arrival_sessions actor w at a))
       by x db (inr p) =
           let o = other_db at.db in
           let n = ids_other at.db (ids_copied a.outcome) in
-          subst (λ d. IsMade (opening d) d (past (sent actor (arrives at a) w))) (sym p)
+          subst (λ d. IsMade (opening d) d (sent actor (arrives at a) w)) (sym p)
           (commit_made w (sent actor (arrives at a) w) (arrival_changes at a) (ids_at o (ids_copied a.outcome)) o x.0 v m (arrival_leads actor w at a) (arrival_commits w v at a e)
           (ap ids_put_in (other_of at.db a.origin a.there) ∙ x.1.there_are) x.1.apart
           (subst (λ k. All (λ id. ((database_at o w).next ≤ id) × (id < (database_at o w).next + k)) x.0) (sym n) x.1.range) (arrival_sessions actor w at a))
@@ -270,7 +249,7 @@ module _ (opening : DbId → Tables) where
   step_made w new i (Arrive at outcome) v a m = subst AreMade (sym m.sends.result) (arrival_made w i at m.arriving v a m.sends.next)
   step_made w new i (Confirm at) v a m = subst AreMade (sym m.sends.result) (confirm_made w i at m.number m.changes v a m.sends.next)
 
-  read_one : (w : World) (reading : ℕ) (db : DbId) → IsMade (opening db) db (past w) → IsMade (opening db) db (past (read_clock reading w))
+  read_one : (w : World) (reading : ℕ) (db : DbId) → IsMade (opening db) db w → IsMade (opening db) db (read_clock reading w)
   unfolding read_clock
   read_one w reading Home m = record { tables = m.tables; count = m.count; fit = m.fit; proper = m.proper; first = m.first; given = m.given; held = m.held }
   read_one w reading Away m = record { tables = m.tables; count = m.count; fit = m.fit; proper = m.proper; first = m.first; given = m.given; held = m.held }
@@ -281,17 +260,12 @@ module _ (opening : DbId → Tables) where
   made_from start v a readings w (steps same u new actor step legal timely may) =
       let x = made_from start v a same u legal in (step_keeps_valid u new actor step x.0 may, step_made u new actor step x.0 x.1 may)
 
--- ---- the beginning
-
-pub opened_made : (home away : Tables) (scripts : List SessionScript) → (db : DbId) → IsMade (opening_at db home away) db (past (opened home away scripts))
-unfolding opened old.opened
-opened_made home away scripts Home = let m = before.opened_made home away scripts Home in record { tables = m.tables; count = m.count; fit = m.fit; proper = m.proper; first = m.first; given = m.given; held = m.held }
-opened_made home away scripts Away = let m = before.opened_made home away scripts Away in record { tables = m.tables; count = m.count; fit = m.fit; proper = m.proper; first = m.first; given = m.given; held = m.held }
+-- ---- every legal history
 
 -- each world of a legal history is valid, and its databases are made so
 pub record IsSoundWorld (home away : Tables) (w : World) : Type 0 where
   pub valid : IsValidWorld w
-  pub made : (db : DbId) → IsMade (opening_at db home away) db (past w)
+  pub made : (db : DbId) → IsMade (opening_at db home away) db w
 
 pub legal_is_sound : (home away : Tables) (scripts : List SessionScript) (readings : List ℕ) (w : World) → MayBegin home away scripts → IsLegal (opened home away scripts) readings w → IsSoundWorld home away w
 legal_is_sound home away scripts readings w b legal =

@@ -7,7 +7,7 @@ use Rattle.std.proofs.lemmas.List.{map-append, append_assoc}
 use Rattle.aq_base.specs.declared.DbId.{DbId}
 use Rattle.aq_base.specs.declared.DbId.TheVariants.{Home, Away}
 use Rattle.queue_rows.specs.Session.{Session, Untold}
-use Rattle.queue_rows.specs.World.{commits_in, uncounted}
+use Rattle.queue_rows.specs.World.{commits_in, uncounted, World, database_at, opened, read_clock}
 use Rattle.queue_rows.specs.declared.tables.Tables.{Tables}
 use Rattle.queue_rows.specs.declared.change.Change.{Change}
 use Rattle.queue_rows.specs.declared.history.Entry.{Entry}
@@ -20,11 +20,10 @@ use Rattle.queue_rows.proofs.Sessions.{get_set-cases}
 use Rattle.history_fates.specs.Durability.{is_flush, until_flush, made, durable, is_call_step, is_call, is_told_step, is_told, ToldIsDurable}
 use Rattle.history_fates.proofs.Commits.{count-more, last_or_before, no_items}
 use Rattle.history_fates.proofs.Telling.{until-flush, until-other, made_first, told_quiet, noted_one, no_call, no_told, other_call, until_uncounted, made_uncounted, untold_at, AreNoted, AreTold}
-use Rattle.run_laws.specs.World.{World, database_at, opened, read_clock}
-use Rattle.run_laws.specs.Turns.{untold_in, having_called, called}
-use Rattle.run_laws.specs.Legal.{MayStep, IsLegal, opens, reads, steps, IsLegalHistory}
+use Rattle.queue_rows.specs.Turns.{untold_in, having_called, called}
+use Rattle.queue_rows.specs.Legal.{MayStep, IsLegal, opens, reads, steps, IsLegalHistory}
 use Rattle.run_laws.proofs.Positions.{WasAt, was_at}
-use Rattle.run_laws.proofs.Stepping.{world_at, called_at, call_sessions}
+use Rattle.run_laws.proofs.Stepping.{world_at, call_sessions}
 use Rattle.run_turns.proofs.Sounding.{StaysDurable}
 use Rattle.run_fates.proofs.Leading.{Led, step_led, AllDurable, step_stays, step_flushes, HadUntold, step_untold}
 

@@ -10,10 +10,11 @@ use Rattle.queue_rows.specs.declared.history.SessionScript.{SessionScript}
 use Rattle.queue_rows.specs.declared.history.SlotRef.{SlotRef}
 use Rattle.queue_rows.specs.declared.history.Step.TheVariants.{Confirm}
 use Rattle.world_laws.specs.WorldLaws.{MayBegin}
-use Rattle.history_fates.specs.Arrivals.{other_db, is_copied, tables_at}
+use Rattle.history_fates.specs.Arrivals.{is_copied, tables_at}
+use Rattle.queue_rows.specs.World.{other_db}
 use Rattle.history_fates.specs.Durability.{until_flush, made, durable, ToldIsDurable}
-use Rattle.run_laws.specs.Legal.{IsLegalHistory}
-use Rattle.run_laws.specs.Serial.{IsSerial}
+use Rattle.queue_rows.specs.Legal.{IsLegalHistory}
+use Rattle.queue_rows.specs.Serial.{IsSerial}
 
 -- the tables of a database as what was durable after these entries of a history left them
 abbrev pub durable_tables_at : DbId → History → List Entry → Tables

@@ -10,8 +10,8 @@ use Rattle.fate_laws.specs.Made.{commits_of, opening_of, tables_after}
 use Rattle.world_laws.specs.WorldLaws.{MayBegin}
 use Rattle.history_fates.specs.LegalFates.{all_fit}
 use Rattle.history_fates.specs.Arrivals.{IsSeenOnce, HasArrivals}
-use Rattle.run_laws.specs.World.{database_at}
-use Rattle.run_laws.specs.Legal.{IsLegalBy, IsLegalHistory}
+use Rattle.queue_rows.specs.World.{database_at}
+use Rattle.queue_rows.specs.Legal.{IsLegalBy, IsLegalHistory}
 
 -- each commit of a legal history fits the tables that those before it leave
 abbrev pub LegalCommitsFit : Type 0

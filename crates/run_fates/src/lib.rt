@@ -1,4 +1,4 @@
-//! Laws of legal histories in which due work, waiting and propagation are steps too: what they commit, and what becomes of messages.
+//! Laws of legal histories: what they commit, and what becomes of messages.
 //!
 //! Each law is a function with an empty body, whose clause is the law; a caller that calls it has it.
 #![tactic(auto)]

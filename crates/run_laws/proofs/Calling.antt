@@ -5,20 +5,16 @@ use Rattle.std.specs.List.{list_any}
 use Rattle.std.proofs.lemmas.Bool.{false≢true}
 use Rattle.std.proofs.lemmas.Option.{none-some, slice_get_within}
 use Rattle.aq_base.specs.declared.DbId.{DbId}
-use Rattle.aq_base.specs.declared.DbId.TheVariants.{Home, Away}
 use Rattle.aq_base.specs.declared.limits.TheConstants.{MOMENT_LIMIT}
-use Rattle.queue_rows.specs.Settling.{settled}
-use Rattle.queue_rows.specs.Session.{Session, is_same_db, marks_slot, standing_after}
+use Rattle.queue_rows.specs.Session.{Session, is_same_db, marks_slot}
 use Rattle.queue_rows.specs.Meaning.{answers}
 use Rattle.queue_rows.specs.Administration.{is_hindered, administered, administer}
 use Rattle.queue_rows.specs.Catalog.{Judged, judged}
 use Rattle.queue_rows.specs.Listening.{listen}
 use Rattle.queue_rows.specs.Transactions.{commit, rollback}
-use Rattle.queue_rows.specs.Turns.{ids_taken}
+use Rattle.queue_rows.specs.Turns.{ids_taken, having_called, called}
 use Rattle.queue_rows.specs.Within.{is_within}
-use Rattle.queue_rows.specs.World as old
-use Rattle.queue_rows.specs.World.{committed_tables}
-use Rattle.queue_rows.specs.Statements as was
+use Rattle.queue_rows.specs.World.{committed_tables, World, Transit, database_at}
 use Rattle.queue_rows.specs.Valid.{is_valid}
 use Rattle.queue_rows.specs.Fits.{fits}
 use Rattle.queue_rows.specs.declared.tables.Tables.{Tables}
@@ -45,12 +41,9 @@ use Rattle.history_fates.proofs.Giving.{Gives, answered_gives}
 use Rattle.history_fates.proofs.Making.{own_db}
 use Rattle.history_fates.proofs.Marking.{MarkedSo, answered_marks, marked_unput}
 use Rattle.history_fates.proofs.Staying.{local_committed}
-use Rattle.mark_laws.proofs.Worlds.{Leaves, answered_leaves}
-use Rattle.run_laws.specs.World.{World, Transit, database_at}
-use Rattle.run_laws.specs.Statements.{slot_sent, meaning, next_statement}
-use Rattle.run_laws.specs.Turns.{having_called, called}
+use Rattle.mark_laws.proofs.Leaving.{Leaves, answered_leaves}
+use Rattle.queue_rows.specs.Statements.{slot_sent, meaning, next_statement}
 use Rattle.run_laws.specs.ValidRun.{IsBeingSent, IsValidWorld}
-use Rattle.run_laws.proofs.Was.{past, tables_past, next_past, meaning_past}
 use Rattle.run_laws.proofs.Positions.{dropped_right, dropped_local}
 use Rattle.run_laws.proofs.Resting.{sent_open, sent_rests}
 use Rattle.run_laws.proofs.Passing.{PassBy, none_pass, commit_passes, rollback_passes, adds_pass, dequeue_passes}
@@ -71,38 +64,23 @@ module _ (w : World) (i : ℕ) (s : Session) (statement : Statement) (reply : Re
   right_here : IsRight here s.at next_id w.moment w.sessions
   right_here = v.databases s.at
 
-  right_past : IsRight (old.database_at s.at (past w)).tables s.at (old.database_at s.at (past w)).next w.moment w.sessions
-  right_past =
-      subst (λ t. IsRight t s.at (old.database_at s.at (past w)).next w.moment w.sessions) (sym (tables_past w s.at)) (subst (λ n. IsRight here s.at n w.moment w.sessions) (sym (next_past w s.at)) right_here)
-
-  means_past : was.meaning (past w) i s statement ≡ answers reply cs after
-  means_past = meaning_past w i s statement ∙ means
-
   pub statement_within : is_within statement ≡ true
-  statement_within = (asked (past w) i s statement v.scripts next).0
+  statement_within = (asked w i s statement v.scripts next).0
 
   pub call_right : (behind : Session) → HoldsAs behind s after → IsRight (committed_tables here cs w.moment) s.at (next_id + ids_taken reply) w.moment (slice_set w.sessions i behind)
-  call_right behind held =
-      let k = asked (past w) i s statement v.scripts next in
-      subst (λ t. IsRight (committed_tables t cs w.moment) s.at (next_id + ids_taken reply) w.moment (slice_set w.sessions i behind)) (tables_past w s.at)
-      (subst (λ n. IsRight (committed_tables (old.database_at s.at (past w)).tables cs w.moment) s.at (n + ids_taken reply) w.moment (slice_set w.sessions i behind)) (next_past w s.at)
-      (answered_right (past w) i s statement reply cs after behind right_past v.last there k.0 k.1 means_past held))
+  call_right behind held = let k = asked w i s statement v.scripts next in answered_right w i s statement reply cs after behind right_here v.last there k.0 k.1 means held
 
   pub call_fits : fits here (record { moment = w.moment; changes = cs }) ≡ true
-  call_fits =
-      let k = asked (past w) i s statement v.scripts next in
-      ap (λ t. fits t (record { moment = w.moment; changes = cs })) (sym (tables_past w s.at)) ∙ (answered_fine (past w) i s statement reply cs after right_past v.last there k.0 k.1 means_past).fit
+  call_fits = let k = asked w i s statement v.scripts next in (answered_fine w i s statement reply cs after right_here v.last there k.0 k.1 means).fit
 
   pub call_gives : (ids : List ℕ) × Gives here next_id (ids_taken reply) s after cs ids
-  call_gives =
-      let x = answered_gives (past w) i s statement reply cs after right_past v.last there statement_within means_past in
-      (x.0, subst (λ t. Gives t next_id (ids_taken reply) s after cs x.0) (tables_past w s.at) (subst (λ n. Gives (old.database_at s.at (past w)).tables n (ids_taken reply) s after cs x.0) (next_past w s.at) x.1))
+  call_gives = answered_gives w i s statement reply cs after right_here v.last there statement_within means
 
   pub call_leaves : Leaves here w.moment s cs after
-  call_leaves = subst (λ t. Leaves t w.moment s cs after) (tables_past w s.at) (answered_leaves (past w) i s statement reply cs after right_past v.last there statement_within means_past)
+  call_leaves = answered_leaves w i s statement reply cs after right_here v.last there statement_within means
 
   call_marks : (id slot : ℕ) → list_any (marks_slot id slot) after.marks ≡ true → MarkedSo here s id slot
-  call_marks id slot h = subst (λ t. MarkedSo t s id slot) (tables_past w s.at) (answered_marks (past w) i s statement reply cs after right_past v.last there statement_within means_past id slot h)
+  call_marks = answered_marks w i s statement reply cs after right_here v.last there statement_within means
 
   -- a slot that can be taken is in no message that it puts in
   pub call_unput : (id slot : ℕ) → is_open_at here id slot ≡ true → list_any (puts_in id) cs ≡ false

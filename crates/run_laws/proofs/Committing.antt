@@ -4,16 +4,14 @@ use Rattle.std.specs.Prelude.{slice_get, if◌then◌else◌}
 use Rattle.std.specs.List.{list_any}
 use Rattle.std.proofs.lemmas.Bool.{ne_eqb, or_from}
 use Rattle.aq_base.specs.declared.DbId.{DbId}
-use Rattle.aq_base.specs.declared.DbId.TheVariants.{Home, Away}
 use Rattle.aq_base.specs.declared.limits.TheConstants.{MOMENT_LIMIT}
-use Rattle.queue_rows.specs.Rows.{find_message}
 use Rattle.queue_rows.specs.Tables.{after}
 use Rattle.queue_rows.specs.Session.{Session, is_same_db}
 use Rattle.queue_rows.specs.Meaning.{answers}
 use Rattle.queue_rows.specs.Due.{due}
 use Rattle.queue_rows.specs.Propagating.{Parcel, Dispatch, Arriving, delayed, taken_in, confirming}
-use Rattle.queue_rows.specs.World.{committed_tables}
-use Rattle.queue_rows.specs.Valid.{is_valid, is_valid_schedule}
+use Rattle.queue_rows.specs.World.{committed_tables, other_db, World, on_its_way, came, database_at}
+use Rattle.queue_rows.specs.Valid.{is_valid_schedule}
 use Rattle.queue_rows.specs.Fits.{fits}
 use Rattle.queue_rows.specs.declared.tables.Tables.{Tables}
 use Rattle.queue_rows.specs.declared.rows.ScheduleRow.{ScheduleRow}
@@ -33,19 +31,17 @@ use Rattle.valid_laws.proofs.Undone.{due_fits, due_goes}
 use Rattle.statement_laws.proofs.Administering.{same_is}
 use Rattle.fate_laws.proofs.Committing.{due_is_proper, arrival_is_proper, confirmation_is_proper}
 use Rattle.world_laws.specs.ValidWorld.{IsRight}
-use Rattle.history_fates.specs.Arrivals.{other_db}
 use Rattle.mark_laws.proofs.Tabling.{TablesStay, goes_tables, none_stays}
-use Rattle.run_laws.specs.World.{World, on_its_way, came, database_at}
-use Rattle.run_laws.specs.Statements.{slot_sent, meaning, next_statement}
-use Rattle.run_laws.specs.Sending.{arrives, confirms, next_sending}
+use Rattle.queue_rows.specs.Statements.{slot_sent, meaning, next_statement}
+use Rattle.queue_rows.specs.Sending.{arrives, confirms, next_sending}
 use Rattle.run_laws.specs.ValidRun.{IsBeingSent, IsValidWorld}
 use Rattle.run_laws.proofs.Arriving.{ArrivesAs, as_seen, as_failed, as_copied, arrives_as}
 use Rattle.run_laws.proofs.Calling.{call_fits, call_gives, call_leaves, call_unput}
 use Rattle.run_laws.proofs.Resting.{sent_open}
-use Rattle.run_laws.proofs.Sendings.{IsArriving, arrives_so, IsConfirmed, confirms_so}
+use Rattle.run_laws.proofs.Sendings.{IsArriving, arrives_so, confirms_so}
 use Rattle.run_laws.proofs.Stepping.{no_changes, only_at}
 use Rattle.run_laws.proofs.Working.{due_none, schedule_valid, taken_is, failed_fits, confirmed_none}
-use Rattle.run_laws.proofs.Worlds.{due_changes, arrival_changes, own_of, other_of, is_one, SendsOn, sends_on}
+use Rattle.run_laws.proofs.Worlds.{due_changes, arrival_changes, own_of, other_of, is_one, sends_on}
 
 -- ---- a commit of one database
 

@@ -7,10 +7,10 @@ use Rattle.std.proofs.lemmas.Option.{slice_get_within}
 use Rattle.std.proofs.lemmas.List.Elements.{All-nil}
 use Rattle.aq_base.specs.declared.DbId.{DbId}
 use Rattle.aq_base.specs.declared.DbId.TheVariants.{Home, Away}
-use Rattle.queue_rows.specs.Session.{Session, is_same_db, marks_slot}
+use Rattle.queue_rows.specs.Session.{Session, marks_slot}
 use Rattle.queue_rows.specs.Meaning.{answers}
-use Rattle.queue_rows.specs.Turns.{ids_taken}
-use Rattle.queue_rows.specs.World.{fresh, committed_tables}
+use Rattle.queue_rows.specs.Turns.{ids_taken, having_called, called, timed, all_durable}
+use Rattle.queue_rows.specs.World.{fresh, committed_tables, other_db, World, on_its_way, Transit, database_at, opened, read_clock, stepped, with_session}
 use Rattle.queue_rows.specs.declared.tables.Tables.{Tables}
 use Rattle.queue_rows.specs.declared.change.Change.{Change}
 use Rattle.queue_rows.specs.declared.history.SlotRef.{SlotRef}
@@ -26,16 +26,13 @@ use Rattle.statement_laws.proofs.Among.{each_found}
 use Rattle.message_choice.specs.Sound.{AreInGroups}
 use Rattle.world_laws.specs.WorldLaws.{MayBegin}
 use Rattle.world_laws.proofs.Worlds.{fresh_empty}
-use Rattle.history_fates.specs.Arrivals.{other_db}
 use Rattle.history_fates.proofs.Making.{own_db}
 use Rattle.mark_laws.specs.GroupedMarks.{group_at, AreOfGroups}
 use Rattle.mark_laws.proofs.Staying.{committed_group}
 use Rattle.mark_laws.proofs.Grouped.{same_group_at, regrouped, all_in_groups}
-use Rattle.run_laws.specs.World.{World, on_its_way, Transit, database_at, opened, read_clock, stepped, with_session}
-use Rattle.run_laws.specs.Sending.{sent, offers, arrives, confirms, ids_copied, with_transit}
-use Rattle.run_laws.specs.Statements.{meaning, next_statement}
-use Rattle.run_laws.specs.Turns.{having_called, called, timed, all_durable}
-use Rattle.run_laws.specs.Legal.{MayStep, IsLegal, opens, reads, steps}
+use Rattle.queue_rows.specs.Sending.{sent, offers, arrives, confirms, ids_copied, with_transit}
+use Rattle.queue_rows.specs.Statements.{meaning, next_statement}
+use Rattle.queue_rows.specs.Legal.{MayStep, IsLegal, opens, reads, steps}
 use Rattle.run_laws.specs.ValidRun.{IsValidWorld}
 use Rattle.run_laws.specs.RunLaws.{AreGroupedMarks}
 use Rattle.run_laws.proofs.Positions.{was_at}

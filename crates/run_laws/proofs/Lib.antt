@@ -9,6 +9,5 @@ pub mod Positions
 pub mod Resting
 pub mod Sendings
 pub mod Stepping
-pub mod Was
 pub mod Working
 pub mod Worlds

@@ -7,13 +7,11 @@ use Rattle.std.proofs.lemmas.Option.{none-some}
 use Rattle.aq_base.specs.declared.DbId.{DbId}
 use Rattle.aq_base.specs.declared.DbId.TheVariants.{Home, Away}
 use Rattle.queue_rows.specs.Propagating.{Dispatch, Arriving, arriving, confirming, pick}
-use Rattle.queue_rows.specs.declared.tables.Tables.{Tables}
 use Rattle.queue_rows.specs.declared.change.Change.{Change}
 use Rattle.queue_rows.specs.declared.history.SlotRef.{SlotRef}
 use Rattle.queue_rows.specs.declared.history.Arrival.TheVariants.{Seen}
-use Rattle.history_fates.specs.Arrivals.{other_db}
-use Rattle.run_laws.specs.World.{World, Stage, on_its_way, came, Transit, database_at}
-use Rattle.run_laws.specs.Sending.{Sending, offers, arrives, confirms, dispatch_at, slot_at, picked_at, picked, offer_of, arrival_of, confirmation_of, sending_on, sending_of, next_sending}
+use Rattle.queue_rows.specs.World.{other_db, World, Stage, on_its_way, came, Transit, database_at}
+use Rattle.queue_rows.specs.Sending.{Sending, offers, arrives, confirms, dispatch_at, slot_at, picked_at, picked, offer_of, arrival_of, confirmation_of, sending_on, sending_of, next_sending}
 
 -- ---- the kinds of steps
 

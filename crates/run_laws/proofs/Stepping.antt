@@ -3,27 +3,18 @@ use Rattle.std.proofs.Common.{◌≡◌, ◌+◌, ℕ, List, [], ◌∷◌, ◌+
 use Rattle.std.specs.Prelude.{slice_get, slice_set, if◌then◌else◌}
 use Rattle.aq_base.specs.declared.DbId.{DbId}
 use Rattle.aq_base.specs.declared.DbId.TheVariants.{Home, Away}
-use Rattle.aq_base.specs.declared.limits.TheConstants.{MOMENT_LIMIT}
 use Rattle.queue_rows.specs.Session.{Session, is_same_db, standing_after}
-use Rattle.queue_rows.specs.World.{at_home, at_away, committed_tables, commits_in}
-use Rattle.queue_rows.specs.Turns.{ids_taken}
-use Rattle.queue_rows.specs.Propagating.{Arriving}
-use Rattle.queue_rows.specs.declared.tables.Tables.{Tables}
+use Rattle.queue_rows.specs.World.{at_home, at_away, committed_tables, commits_in, World, Transit, database_at, entry_of, stepped, with_session}
+use Rattle.queue_rows.specs.Turns.{ids_taken, having_called, called_in, standing, all_durable}
 use Rattle.queue_rows.specs.declared.change.Change.{Change}
 use Rattle.queue_rows.specs.declared.reply.Reply.{Reply}
 use Rattle.queue_rows.specs.declared.history.Entry.{Entry}
-use Rattle.queue_rows.specs.declared.history.SlotRef.{SlotRef}
-use Rattle.queue_rows.specs.declared.history.Arrival.{Arrival}
-use Rattle.queue_rows.specs.declared.history.Arrival.TheVariants.{Copied, Seen, Failed}
 use Rattle.queue_rows.specs.declared.history.Step.{Step}
-use Rattle.queue_rows.specs.declared.history.Step.TheVariants.{Call, Park, Timer, Offer, Arrive, Confirm, Told, Flush, End}
+use Rattle.queue_rows.specs.declared.history.Step.TheVariants.{Call}
 use Rattle.fate_laws.specs.Made.{changes_at}
 use Rattle.world_laws.specs.ValidWorld.{AreScripts, IsRight}
 use Rattle.history_fates.specs.LocalMarks.{MarksAreLocal}
-use Rattle.history_fates.specs.Arrivals.{other_db}
-use Rattle.run_laws.specs.World.{World, Transit, database_at, entry_of, stepped, with_session}
-use Rattle.run_laws.specs.Sending.{taking_ids, with_transit, home_of, away_of, ids_copied, transit_after, come}
-use Rattle.run_laws.specs.Turns.{due_at, timed, having_called, called_in, standing, called, all_durable}
+use Rattle.queue_rows.specs.Sending.{taking_ids, with_transit}
 use Rattle.run_laws.specs.ValidRun.{IsBeingSent, IsValidWorld}
 
 -- ---- what is left of a world

@@ -8,13 +8,11 @@ use Rattle.aq_base.specs.declared.DbId.{DbId}
 use Rattle.aq_base.specs.declared.DbId.TheVariants.{Home, Away}
 use Rattle.aq_base.specs.declared.limits.TheConstants.{MOMENT_LIMIT}
 use Rattle.queue_rows.specs.Session.{Session, is_same_db, marks_slot}
-use Rattle.queue_rows.specs.Propagating.{Dispatch, dispatch, Arriving, arriving, delayed, taken_in, confirming}
-use Rattle.queue_rows.specs.World as old
-use Rattle.queue_rows.specs.World.{greatest_moment, fresh, at_home, at_away, committed_tables}
+use Rattle.queue_rows.specs.Propagating.{Dispatch, dispatch, Arriving, arriving, confirming}
+use Rattle.queue_rows.specs.World.{greatest_moment, fresh, at_home, at_away, committed_tables, commits_in, other_db, World, Stage, on_its_way, came, Transit, database_at, opened, read_clock, stepped, with_session}
 use Rattle.queue_rows.specs.Valid.{is_valid_schedule}
 use Rattle.queue_rows.specs.declared.tables.Tables.{Tables}
 use Rattle.queue_rows.specs.declared.change.Change.{Change}
-use Rattle.queue_rows.specs.declared.change.Change.TheVariants as changes
 use Rattle.queue_rows.specs.declared.history.SlotRef.{SlotRef}
 use Rattle.queue_rows.specs.declared.history.SessionScript.{SessionScript}
 use Rattle.queue_rows.specs.declared.history.Arrival.{Arrival}
@@ -31,23 +29,20 @@ use Rattle.statement_laws.proofs.Standing.{empty_stands, empty_two, two_empty, s
 use Rattle.statement_laws.proofs.Stepping.{same_standing}
 use Rattle.world_laws.specs.ValidWorld.{AreScripts, IsRight}
 use Rattle.world_laws.specs.WorldLaws.{MayBegin}
-use Rattle.world_laws.proofs.Worlds as before
-use Rattle.world_laws.proofs.Worlds.{fresh_empty, replaced_by}
-use Rattle.history_fates.specs.Arrivals.{other_db}
+use Rattle.world_laws.proofs.Worlds.{fresh_empty, latest_within, opened_right, opening_within, replaced_by}
 use Rattle.history_fates.specs.LocalMarks.{is_remote_at, MarksAreLocal}
 use Rattle.history_fates.proofs.Making.{own_db}
-use Rattle.run_laws.specs.World.{World, Stage, on_its_way, came, Transit, database_at, opened, read_clock, stepped, with_session}
-use Rattle.run_laws.specs.Sending.{taking_ids, with_transit, home_of, away_of, offers, arrives, confirms, next_sending, ids_copied, transit_after, come, sent}
-use Rattle.run_laws.specs.Statements.{slot_sent}
-use Rattle.run_laws.specs.Turns.{due_at, timed, all_durable}
-use Rattle.run_laws.specs.Legal.{MayStep, IsLegal, opens, reads, steps}
+use Rattle.queue_rows.specs.Sending.{taking_ids, with_transit, home_of, away_of, offers, arrives, confirms, next_sending, ids_copied, transit_after, sent}
+use Rattle.queue_rows.specs.Statements.{slot_sent}
+use Rattle.queue_rows.specs.Turns.{due_at, timed, all_durable}
+use Rattle.queue_rows.specs.Legal.{MayStep, IsLegal, opens, reads, steps}
 use Rattle.run_laws.specs.ValidRun.{IsBeingSent, IsValidWorld}
 use Rattle.run_laws.proofs.Arriving.{ArrivesAs, as_seen, as_failed, as_copied, arrives_as}
 use Rattle.run_laws.proofs.Calling.{call_valid}
 use Rattle.run_laws.proofs.Picking.{picked_sent}
-use Rattle.run_laws.proofs.Sendings.{IsOffered, offered, IsArriving, arrives_so, IsConfirmed, confirms_so}
+use Rattle.run_laws.proofs.Sendings.{offered, arrives_so, confirms_so}
 use Rattle.run_laws.proofs.Stepping.{Leads, no_changes, no_ids, at_both, only_at, ids_at, valid_behind, step_leads, step_sessions, step_transit, leads_with_session, leads_with_transit, leads_taking, leads_durable}
-use Rattle.run_laws.proofs.Working.{due_right, due_local, due_rests, IsDispatched, sent_dispatched, schedule_valid, taken_right, taken_local, failed_right, failed_local, confirmed_right, confirmed_local}
+use Rattle.run_laws.proofs.Working.{due_right, due_local, due_rests, sent_dispatched, schedule_valid, taken_right, taken_local, failed_right, failed_local, confirmed_right, confirmed_local}
 
 -- ---- what leads to a world, said of changes that are the same
 
@@ -58,7 +53,7 @@ leads_as w new cs ds taken same b = record {
   changes = λ db. b.changes db ∙ same db;
   at_moment = b.at_moment;
   tables = λ db. b.tables db ∙ ap (λ x. committed_tables (database_at db w).tables x w.moment) (same db);
-  count = λ db. b.count db ∙ ap (λ x. (database_at db w).made + old.commits_in x) (same db);
+  count = λ db. b.count db ∙ ap (λ x. (database_at db w).made + commits_in x) (same db);
   next = b.next;
   moment = b.moment;
   scripts = b.scripts;
@@ -438,22 +433,16 @@ reading_keeps_valid w reading v = record {
   sent = λ t e. subst (λ x. IsBeingSent x t.slot) (sym (read_tables w reading t.slot.db)) (v.sent t (sym (read_scripts w reading).1 ∙ e));
 }
 
-opened_right : (home away : Tables) (scripts : List SessionScript) → MayBegin home away scripts → (db : DbId)
-    → IsRight (database_at db (opened home away scripts)).tables db (database_at db (opened home away scripts)).next (opened home away scripts).moment (opened home away scripts).sessions
-unfolding opened old.opened
-opened_right home away scripts b Home = (before.opens_valid home away scripts b).databases Home
-opened_right home away scripts b Away = (before.opens_valid home away scripts b).databases Away
-
 none_local : (t : Tables) (db : DbId) (scripts : List SessionScript) → MarksAreLocal t db (map fresh scripts)
 none_local t db scripts i s e f id slot h = absurd (false≢true (sym (ap (list_any (marks_slot id slot)) (fresh_empty scripts i s e).1) ∙ h))
 
 pub opens_valid : (home away : Tables) (scripts : List SessionScript) → MayBegin home away scripts → IsValidWorld (opened home away scripts)
-unfolding opened old.opened
+unfolding opened
 opens_valid home away scripts b = record {
   databases = opened_right home away scripts b;
   local = λ db. none_local (database_at db (opened home away scripts)).tables db scripts;
-  last = (before.opens_valid home away scripts b).last;
-  scripts = (before.opens_valid home away scripts b).scripts;
+  last = opening_within home.latest away.latest (latest_within home b.home_valid) (latest_within away b.away_valid);
+  scripts = b.may_ask;
   sent = λ t e. absurd (none-some t e);
 }
 

@@ -7,8 +7,8 @@ use Rattle.queue_rows.specs.declared.history.Step.{Step}
 use Rattle.message_choice.specs.Sound.{AreInGroups}
 use Rattle.world_laws.specs.WorldLaws.{MayBegin}
 use Rattle.mark_laws.specs.GroupedMarks.{AreOfGroups}
-use Rattle.run_laws.specs.World.{World, database_at, opened, read_clock}
-use Rattle.run_laws.specs.Legal.{MayStep, IsLegal}
+use Rattle.queue_rows.specs.World.{World, database_at, opened, read_clock}
+use Rattle.queue_rows.specs.Legal.{MayStep, IsLegal}
 use Rattle.run_laws.specs.ValidRun.{IsValidWorld}
 
 -- ---- valid worlds

@@ -1,4 +1,4 @@
-//! Laws of runs in which due work, waiting and propagation are steps too.
+//! Laws of runs: each world of a legal history is valid, with each mark in the group of its slot.
 //!
 //! Each law is a function with an empty body, whose clause is the law; a caller that calls it has it.
 #![tactic(auto)]

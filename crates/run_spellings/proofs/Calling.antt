@@ -10,7 +10,7 @@ use Rattle.queue_rows.specs.Catalog.{Judged, judged}
 use Rattle.queue_rows.specs.Enqueueing.{enqueue}
 use Rattle.queue_rows.specs.Listening.{listen}
 use Rattle.queue_rows.specs.Transactions.{commit, rollback}
-use Rattle.queue_rows.specs.Statements.{statement_of}
+use Rattle.queue_rows.specs.Statements.{statement_of, slot_sent, meaning, next_statement}
 use Rattle.queue_rows.specs.Within.{is_within}
 use Rattle.queue_rows.specs.declared.tables.Tables.{Tables}
 use Rattle.queue_rows.specs.declared.session.Pending.TheVariants.{Remove}
@@ -34,10 +34,8 @@ use Rattle.statement_laws.proofs.Stepping.{HoldsSame, listen_same}
 use Rattle.statement_laws.proofs.Taking.{dequeue_removes_open}
 use Rattle.world_laws.proofs.Worlds.{all_at, asked}
 use Rattle.history_fates.proofs.Making.{own_db}
-use Rattle.run_laws.specs.World.{World, database_at}
-use Rattle.run_laws.specs.Statements.{slot_sent, meaning, next_statement}
+use Rattle.queue_rows.specs.World.{World, database_at}
 use Rattle.run_laws.specs.ValidRun.{IsValidWorld}
-use Rattle.run_laws.proofs.Was.{past}
 use Rattle.run_spellings.specs.SpellableRun.{AreFullAdditions, AreSpellable, asks_text_rule, has_text_rule, have_text_rules, IsFullAddition, IsSpellableWorld}
 use Rattle.run_spellings.proofs.Adding.{SpellsAnswer, given_props_full, enqueue_spells}
 use Rattle.run_spellings.proofs.Changing.{settled_spells, commit_spells, rollback_spells}
@@ -129,7 +127,7 @@ module _ (w : World) (i : ℕ) (s : Session) (v : IsValidWorld w) (k : IsSpellab
 
   pub call_answers : (statement : Statement) (reply : Reply) (cs : List Change) (after : Session) → next_statement w i s ≡ Some statement → meaning w i s statement ≡ answers reply cs after → SpellsAnswer reply cs after
   call_answers statement reply cs after next means =
-      let a = asked (past w) i s statement v.scripts next in answer_spells statement reply cs after a.0 (asked_by w.scripts i s.next statement (slice_get w.scripts i) refl k.rules next) means
+      let a = asked w i s statement v.scripts next in answer_spells statement reply cs after a.0 (asked_by w.scripts i s.next statement (slice_get w.scripts i) refl k.rules next) means
 
 pub call_spells : (w : World) (i : ℕ) (s : Session) (statement : Statement) (reply : Reply) (cs : List Change) (after : Session) → IsValidWorld w → IsSpellableWorld w → slice_get w.sessions i ≡ Some s → next_statement w i s ≡ Some statement
     → meaning w i s statement ≡ answers reply cs after → AreSpellable cs

@@ -14,9 +14,8 @@ use Rattle.queue_rows.specs.declared.change.Change.{Change}
 use Rattle.queue_rows.specs.declared.history.SlotRef.{SlotRef}
 use Rattle.queue_rows.specs.declared.history.Cause.{Cause}
 use Rattle.queue_rows.specs.declared.history.Arrival.TheVariants.{Seen}
-use Rattle.history_fates.specs.Arrivals.{other_db}
-use Rattle.run_laws.specs.World.{World, database_at}
-use Rattle.run_laws.specs.Sending.{Sending, offers, arrives, confirms, next_sending}
+use Rattle.queue_rows.specs.World.{other_db, World, database_at}
+use Rattle.queue_rows.specs.Sending.{Sending, offers, arrives, confirms, next_sending}
 use Rattle.run_laws.proofs.Sendings.{arrives_so, confirms_so}
 use Rattle.redo_records.specs.Spellable.{HasFullData, IsFull}
 use Rattle.run_spellings.specs.SpellableRun.{AreSpellable, HasSpellableRows, IsSpellableSending, IsSpellableWorld}

@@ -9,8 +9,8 @@ use Rattle.aq_base.specs.declared.DbId.{DbId}
 use Rattle.aq_base.specs.declared.DbId.TheVariants.{Home, Away}
 use Rattle.queue_rows.specs.Session.{Session, is_same_db}
 use Rattle.queue_rows.specs.Meaning.{answers}
-use Rattle.queue_rows.specs.Turns.{ids_taken}
-use Rattle.queue_rows.specs.World.{fresh, uncounted}
+use Rattle.queue_rows.specs.Turns.{ids_taken, having_called, called, timed, all_durable}
+use Rattle.queue_rows.specs.World.{fresh, uncounted, other_db, World, on_its_way, Transit, database_at, opened, read_clock, stepped, with_session}
 use Rattle.queue_rows.specs.Propagating.{Arriving}
 use Rattle.queue_rows.specs.declared.tables.Tables.{Tables}
 use Rattle.queue_rows.specs.declared.change.Change.{Change}
@@ -26,12 +26,9 @@ use Rattle.queue_rows.proofs.Sessions.{get_set-cases}
 use Rattle.fate_laws.specs.Made.{changes_at, commit_at, commits_of}
 use Rattle.world_laws.specs.WorldLaws.{MayBegin}
 use Rattle.world_laws.proofs.Worlds.{fresh_empty}
-use Rattle.history_fates.specs.Arrivals.{other_db}
-use Rattle.run_laws.specs.World.{World, on_its_way, Transit, database_at, opened, read_clock, stepped, with_session}
-use Rattle.run_laws.specs.Sending.{sent, offers, arrives, confirms, next_sending, ids_copied, with_transit}
-use Rattle.run_laws.specs.Statements.{slot_sent, meaning, next_statement}
-use Rattle.run_laws.specs.Turns.{having_called, called, timed, all_durable}
-use Rattle.run_laws.specs.Legal.{MayStep, IsLegal, opens, reads, steps, IsLegalBy, IsLegalHistory}
+use Rattle.queue_rows.specs.Sending.{sent, offers, arrives, confirms, next_sending, ids_copied, with_transit}
+use Rattle.queue_rows.specs.Statements.{slot_sent, meaning, next_statement}
+use Rattle.queue_rows.specs.Legal.{MayStep, IsLegal, opens, reads, steps, IsLegalBy, IsLegalHistory}
 use Rattle.run_laws.specs.ValidRun.{IsValidWorld}
 use Rattle.run_laws.proofs.Positions.{was_at}
 use Rattle.run_laws.proofs.Stepping.{Leads, no_changes, no_ids, only_at, ids_at, world_at, called_at, call_leads, call_sessions, step_sessions, leads_with_session, leads_with_transit, leads_durable}

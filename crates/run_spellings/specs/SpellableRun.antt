@@ -15,8 +15,8 @@ use Rattle.queue_rows.specs.declared.statement.Admin.{Admin}
 use Rattle.queue_rows.specs.declared.statement.Admin.TheVariants as asks
 use Rattle.queue_rows.specs.declared.statement.Statement.{Statement}
 use Rattle.queue_rows.specs.declared.statement.Statement.TheVariants as statements
-use Rattle.run_laws.specs.World.{World, database_at}
-use Rattle.run_laws.specs.Sending.{Sending, offers, arrives, confirms}
+use Rattle.queue_rows.specs.World.{World, database_at}
+use Rattle.queue_rows.specs.Sending.{Sending, offers, arrives, confirms}
 use Rattle.redo_records.specs.Spellable.{HasFullData, HasReadRule, IsSpellable}
 
 -- ---- tables and changes

@@ -11,7 +11,7 @@ use Rattle.rule_conditions.specs.declared.condition.Cond.{Cond}
 use Rattle.queue_rows.specs.Session.{Session}
 use Rattle.queue_rows.specs.Meaning.{answers}
 use Rattle.queue_rows.specs.Due.{due}
-use Rattle.queue_rows.specs.World.{committed_tables}
+use Rattle.queue_rows.specs.World.{committed_tables, World, opened, read_clock}
 use Rattle.queue_rows.specs.declared.tables.Tables.{Tables}
 use Rattle.queue_rows.specs.declared.change.Change.{Change}
 use Rattle.queue_rows.specs.declared.history.History.{History}
@@ -23,10 +23,9 @@ use Rattle.queue_rows.specs.declared.statement.Statement.{Statement}
 use Rattle.fate_laws.specs.Made.{commits_of}
 use Rattle.world_laws.specs.WorldLaws.{MayBegin}
 use Rattle.database_recovery.specs.Sound.{IsSound}
-use Rattle.run_laws.specs.World.{World, opened, read_clock}
-use Rattle.run_laws.specs.Sending.{Sending, next_sending}
-use Rattle.run_laws.specs.Statements.{meaning, next_statement}
-use Rattle.run_laws.specs.Legal.{MayStep, IsLegal, IsLegalHistory}
+use Rattle.queue_rows.specs.Sending.{Sending, next_sending}
+use Rattle.queue_rows.specs.Statements.{meaning, next_statement}
+use Rattle.queue_rows.specs.Legal.{MayStep, IsLegal, IsLegalHistory}
 use Rattle.run_laws.specs.ValidRun.{IsValidWorld}
 use Rattle.redo_records.specs.Spellable.{CanBeSpelled}
 use Rattle.run_spellings.specs.SpellableRun.{AreSpellable, HasSpellableRows, IsSpellableSending, IsSpellableWorld, MayBeSpelled}

@@ -4,8 +4,8 @@ use Rattle.std.specs.Prelude.{slice_get, slice_set, option_map, IfSome}
 use Rattle.aq_base.specs.declared.DbId.{DbId}
 use Rattle.aq_base.specs.declared.DbId.TheVariants.{Home, Away}
 use Rattle.queue_rows.specs.Session.{Session, standing_after}
-use Rattle.queue_rows.specs.Turns.{ids_taken}
-use Rattle.queue_rows.specs.World.{at_home, at_away}
+use Rattle.queue_rows.specs.Turns.{ids_taken, parked, ended, flushed, told, standing, called_in, all_durable, is_durable}
+use Rattle.queue_rows.specs.World.{at_home, at_away, World, database_at, stepped, with_session}
 use Rattle.queue_rows.specs.declared.change.Change.{Change}
 use Rattle.queue_rows.specs.declared.session.Pending.{Pending}
 use Rattle.queue_rows.specs.declared.history.Arrival.{Arrival}
@@ -13,9 +13,7 @@ use Rattle.queue_rows.specs.declared.history.Arrival.TheVariants.{Copied, Seen, 
 use Rattle.queue_rows.specs.declared.history.Step.{Step}
 use Rattle.queue_rows.specs.declared.history.Step.TheVariants.{Call, Park, Told, Flush, End}
 use Rattle.sessions.specs.declared.state.SessionState.{SessionState}
-use Rattle.run_laws.specs.Sending.{home_of, away_of, ids_copied, taking_ids}
-use Rattle.run_laws.specs.Turns.{parked, ended, flushed, told, standing, called_in, all_durable, is_durable}
-use Rattle.run_laws.specs.World.{World, database_at, stepped, with_session}
+use Rattle.queue_rows.specs.Sending.{home_of, away_of, ids_copied, taking_ids}
 use Rattle.run_state.specs.CallEffects.{IsCallable, IsLaterThan, called_with, closed_call, done_by, entered_call, holding}
 use Rattle.run_state.specs.Sessions.{session_of, unmarked, changed_at, after_call, after_park, after_reply, after_end, gone_in, left_by, OfSession}
 use Rattle.run_state.specs.declared.call_effect.CallEffect.{CallEffect}

@@ -3,12 +3,11 @@ use Rattle.std.proofs.Common.{◌≡◌, ℕ, ◌+◌, ◌≤◌, Bool, true, fa
 use Rattle.std.specs.Prelude.{◌==◌, Ok, Err, OnOk, OnErr, map}
 use Rattle.std.proofs.lemmas.List.{map-append, length_push}
 use Rattle.queue_rows.specs.Session.{Session}
-use Rattle.queue_rows.specs.World.{commits_in, uncounted}
+use Rattle.queue_rows.specs.World.{commits_in, uncounted, World, Database, Transit, committed, entry_of, stepped}
 use Rattle.queue_rows.specs.declared.change.Change.{Change}
 use Rattle.queue_rows.specs.declared.history.Entry.{Entry}
 use Rattle.queue_rows.specs.declared.history.SessionScript.{SessionScript}
 use Rattle.queue_rows.specs.declared.history.Step.{Step}
-use Rattle.run_laws.specs.World.{World, Database, Transit, committed, entry_of, stepped}
 use Rattle.run_state.specs.CallEffects.{entered_call, holding}
 use Rattle.run_state.specs.Entries.{AreCounted}
 use Rattle.run_state.specs.Sessions.{changed_at}

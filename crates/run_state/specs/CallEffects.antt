@@ -4,7 +4,7 @@ use Rattle.aq_base.specs.declared.DbId.{DbId}
 use Rattle.slot_marks.specs.declared.mark.Mark.{Mark}
 use Rattle.queue_rows.specs.Session.{Session}
 use Rattle.queue_rows.specs.Meaning.{Meaning, answers}
-use Rattle.queue_rows.specs.Turns.{ids_taken}
+use Rattle.queue_rows.specs.Turns.{ids_taken, called}
 use Rattle.queue_rows.specs.declared.change.Change.{Change}
 use Rattle.queue_rows.specs.declared.history.Step.{Step}
 use Rattle.queue_rows.specs.declared.session.Pending.{Pending}
@@ -12,8 +12,7 @@ use Rattle.queue_rows.specs.declared.session.Position.{Position}
 use Rattle.sessions.specs.Effects.{pending_with, marks_with, marks_without, positions_after}
 use Rattle.sessions.specs.declared.state.Effect.{Effect}
 use Rattle.sessions.specs.declared.state.Verdict.TheVariants.{Answer}
-use Rattle.run_laws.specs.Turns.{called}
-use Rattle.run_laws.specs.World.{World, database_at, stepped}
+use Rattle.queue_rows.specs.World.{World, database_at, stepped}
 use Rattle.run_state.specs.Sessions.{positions_by, IsFreeIn, changed_at, after_call, left_by}
 use Rattle.run_state.specs.declared.call_effect.CallEffect.{CallEffect}
 use Rattle.run_state.specs.declared.call_effect.Holdings.{Holdings}

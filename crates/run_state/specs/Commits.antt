@@ -3,7 +3,7 @@ use Rattle.std.specs.Prelude.{Bool, not, nat_lt, Option, Some, None}
 use Rattle.queue_rows.specs.Tables.{after}
 use Rattle.queue_rows.specs.declared.tables.Tables.{Tables}
 use Rattle.queue_rows.specs.declared.change.Commit.{Commit}
-use Rattle.run_laws.specs.World.{Database}
+use Rattle.queue_rows.specs.World.{Database}
 
 -- the tables after a commit, if there is one
 abbrev pub made_by : Option Commit → Tables → Tables

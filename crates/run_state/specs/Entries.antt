@@ -2,8 +2,8 @@
 use Rattle.std.specs.Prelude.{◌≡◌, ◌≤◌, ◌⊎◌, ℕ, List, length}
 use Rattle.queue_rows.specs.declared.history.Entry.{Entry}
 use Rattle.queue_rows.specs.declared.history.History.{History}
-use Rattle.run_laws.specs.Turns.{flushed}
-use Rattle.run_laws.specs.World.{World}
+use Rattle.queue_rows.specs.Turns.{flushed}
+use Rattle.queue_rows.specs.World.{World}
 
 -- no disk was called: there is none yet
 abbrev pub HasNoCalls : Entry → Type 0

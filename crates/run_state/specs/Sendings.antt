@@ -1,7 +1,7 @@
 -- The slot that is being sent, as a run keeps it.
 use Rattle.std.specs.Prelude.{◌+◌}
-use Rattle.run_laws.specs.World as world
-use Rattle.run_laws.specs.World.{on_its_way, came}
+use Rattle.queue_rows.specs.World as world
+use Rattle.queue_rows.specs.World.{on_its_way, came}
 use Rattle.run_state.specs.declared.transit.Stage.{Stage}
 use Rattle.run_state.specs.declared.transit.Stage.TheVariants.{OnItsWay, Came}
 use Rattle.run_state.specs.declared.transit.Transit.{Transit}

@@ -7,7 +7,7 @@ use Rattle.queue_rows.specs.Rows.{exception_name}
 use Rattle.queue_rows.specs.Session.{Session, Untold, is_same_db, is_position, without_positions}
 use Rattle.queue_rows.specs.declared.change.Change.{Change}
 use Rattle.queue_rows.specs.declared.change.Change.TheVariants.{DropTable, DropQueue}
-use Rattle.run_laws.specs.World.{World}
+use Rattle.queue_rows.specs.World.{World}
 use Rattle.queue_rows.specs.declared.session.Pending.{Pending}
 use Rattle.queue_rows.specs.declared.session.Position.{Position}
 use Rattle.sessions.specs.States.{AreMarks}

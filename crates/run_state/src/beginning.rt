@@ -1,7 +1,6 @@
 // What a run over databases begins with.
 ghost use Rattle.std.specs.Prelude.{◌≡◌, [], map, IfOk};
-ghost use Rattle.queue_rows.specs.World.{fresh};
-ghost use Rattle.run_laws.specs.World.{opened};
+ghost use Rattle.queue_rows.specs.World.{fresh, opened};
 
 use crate::copies::copied_tables;
 use crate::run_database::RunDatabase;
@@ -52,7 +51,7 @@ impl Beginning {
     }
 
     /// The state of the run that begins so, over the stores of its databases.
-    #[tactic(auto, unfolding(run_laws::specs::World::opened))]
+    #[tactic(auto, unfolding(queue_rows::specs::World::opened))]
     pub(crate) fn over(self, home: PreparedStore, away: PreparedStore) -> RunState
         requires home { self.home ≡ home.tables }
         requires away { self.away ≡ away.tables }

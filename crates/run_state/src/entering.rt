@@ -2,7 +2,7 @@
 ghost use Rattle.std.specs.Prelude.{◌≡◌, ◌≤◌, ◌<◌, ◌++◌, ◌∷◌, [], length, List as Sequence, OnOk, OnErr, IfSome};
 ghost use Rattle.queue_rows.specs.Legal.{last_entry};
 ghost use Rattle.queue_rows.specs.declared.history.Entry.{Entry as Row};
-ghost use Rattle.run_laws.specs.World.{committed};
+ghost use Rattle.queue_rows.specs.World.{committed};
 ghost use Rattle.run_state.specs.CallEffects.{IsLaterThan, mark_of, pend_of, with_pended, holding};
 ghost use Rattle.run_state.specs.Sessions.{changed_at, with_pending, IsFreeIn};
 

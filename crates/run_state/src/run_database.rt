@@ -2,10 +2,9 @@
 ghost use Rattle.std.specs.Prelude.{◌≡◌, ◌<◌, ◌^◌, ◌+◌, IfSome, OnOk, OnErr};
 ghost use Rattle.message_store.specs.Stored.{IsPreparedFor};
 ghost use Rattle.queue_rows.specs.Tables.{empty_tables};
-ghost use Rattle.queue_rows.specs.World.{commits_in};
-ghost use Rattle.run_laws.specs.Sending.{with_ids};
-ghost use Rattle.run_laws.specs.Turns.{made_durable};
-ghost use Rattle.run_laws.specs.World.{committed, opened_database};
+ghost use Rattle.queue_rows.specs.World.{commits_in, committed, opened_database};
+ghost use Rattle.queue_rows.specs.Sending.{with_ids};
+ghost use Rattle.queue_rows.specs.Turns.{made_durable};
 ghost use Rattle.run_state.specs.Commits.{made_by, is_durable_database};
 
 use message_store::PreparedStore;
@@ -29,7 +28,7 @@ pub struct RunDatabase {
 impl Model for RunDatabase {
     ghost use Rattle.std.specs.Coded.{codes};
     ghost use Rattle.rule_conditions.specs.contracts.condition.Cond as cond;
-    ghost use Rattle.run_laws.specs.World.{Database};
+    ghost use Rattle.queue_rows.specs.World.{Database};
 
     ghost Value = { Database };
 

@@ -3,9 +3,8 @@ ghost use Rattle.std.specs.Prelude.{◌≡◌, ◌<◌, ◌^◌, ◌+◌, [], ma
 ghost use Rattle.std.specs.List.{AllZip};
 ghost use Rattle.queue_rows.specs.Statements.{statement_of};
 ghost use Rattle.queue_rows.specs.Tables.{empty_tables};
-ghost use Rattle.queue_rows.specs.World.{uncounted};
-ghost use Rattle.run_laws.specs.Turns.{any_live, is_durable};
-ghost use Rattle.run_laws.specs.World.{database_at, opened, read_clock};
+ghost use Rattle.queue_rows.specs.World.{uncounted, database_at, opened, read_clock};
+ghost use Rattle.queue_rows.specs.Turns.{any_live, is_durable};
 ghost use Rattle.sessions.specs.States.{AreMarks, IsStateOf};
 ghost use Rattle.run_state.specs.Entries.{BeginsAs, HasNoCalls};
 ghost use Rattle.run_state.specs.Sendings.{transit_of};
@@ -64,7 +63,7 @@ impl Model for RunState {
     ghost use Rattle.std.specs.Coded.{codes};
     ghost use Rattle.rule_conditions.specs.contracts.condition.Cond as cond;
     ghost use Rattle.queue_rows.specs.World.{uncounted};
-    ghost use Rattle.run_laws.specs.World.{World};
+    ghost use Rattle.queue_rows.specs.World.{World};
     ghost use Rattle.run_state.specs.Entries.{HasNoCalls, AreCounted};
     ghost use Rattle.run_state.specs.Sendings.{transit_of};
 
@@ -92,7 +91,7 @@ impl Model for RunState {
 
 impl RunState {
     /// The state in which the sessions of these scripts have called nothing yet, over two databases in which nothing was committed.
-    #[tactic(auto, unfolding(run_laws::specs::World::opened))]
+    #[tactic(auto, unfolding(queue_rows::specs::World::opened))]
     pub fn open(alloc: Global, scripts: List<SessionScript>) -> Result<RunState, AllocError>
         ensures { IfOk result (λ w. w ≡ opened empty_tables empty_tables scripts) }
     {
@@ -190,7 +189,7 @@ impl RunState {
     }
 
     /// Whether a session goes on.
-    #[tactic(auto, unfolding(run_laws::specs::Turns::any_live))]
+    #[tactic(auto, unfolding(queue_rows::specs::Turns::any_live))]
     pub fn any_live(&self) -> bool
         ensures { result ≡ any_live self.now }
     {
@@ -240,7 +239,7 @@ impl RunState {
     }
 
     /// Takes a reading of the clock: the moment is the greatest reading so far, and no reading counts for more than the greatest moment.
-    #[tactic(auto, unfolding(run_laws::specs::World::read_clock))]
+    #[tactic(auto, unfolding(queue_rows::specs::World::read_clock))]
     pub fn read_clock(&mut self, reading: u64)
         requires { self.old.readings + 1 < 2 ^ 64 }
         ensures { self.new ≡ read_clock reading self.old }

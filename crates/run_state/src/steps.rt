@@ -3,12 +3,10 @@ ghost use Rattle.std.specs.Prelude.{◌≡◌, ◌<◌, ◌+◌, ◌^◌, ◌++�
 ghost use Rattle.std.specs.List.{position_or_len};
 ghost use Rattle.propagation.specs.Outcomes.{meant};
 ghost use Rattle.queue_rows.specs.Propagating.{is_pair};
-ghost use Rattle.queue_rows.specs.Turns.{ids_taken};
+ghost use Rattle.queue_rows.specs.Turns.{ids_taken, parked, ended, flushed, told};
 ghost use Rattle.queue_rows.specs.declared.history.Step.TheVariants.{Timer};
-ghost use Rattle.history_fates.specs.Arrivals.{other_db};
-ghost use Rattle.run_laws.specs.Sending.{offers, arrives, confirms, sent, taking_ids, ids_copied, pair_number, home_of, away_of, transit_after};
-ghost use Rattle.run_laws.specs.Turns.{parked, ended, flushed, told};
-ghost use Rattle.run_laws.specs.World.{database_at, stepped};
+ghost use Rattle.queue_rows.specs.World.{other_db, database_at, stepped};
+ghost use Rattle.queue_rows.specs.Sending.{offers, arrives, confirms, sent, taking_ids, ids_copied, pair_number, home_of, away_of, transit_after};
 ghost use Rattle.run_state.specs.CallEffects.{IsCallable, IsFreeOf, IsLaterThan, called_with, closed_call, entered_call, pend_of};
 ghost use Rattle.run_state.specs.Entries.{IsUntold};
 ghost use Rattle.run_state.specs.Sendings.{transit_of};
@@ -251,7 +249,7 @@ impl RunState {
     }
 
     /// Makes each commit durable, where one is not. At want of memory all is as before.
-    #[tactic(auto, unfolding(run_laws::specs::Turns::flushed))]
+    #[tactic(auto, unfolding(queue_rows::specs::Turns::flushed))]
     pub fn flush(&mut self, actor: u32) -> Result<(), AllocError>
         ensures ok { OnOk result (self.new ≡ flushed actor self.old) }
         ensures err { OnErr result (self.new ≡ self.old) }
@@ -291,7 +289,7 @@ impl RunState {
     }
 
     /// Takes a slot up, to send it to that queue of the other database. At want of memory all is as before.
-    #[tactic(auto, unfolding(run_laws::specs::Sending::sent))]
+    #[tactic(auto, unfolding(queue_rows::specs::Sending::sent))]
     pub fn offer(&mut self, actor: u32, at: SlotRef, to: Name) -> Result<(), AllocError>
         ensures ok { OnOk result (self.new ≡ sent actor (offers at to) self.old) }
         ensures err { OnErr result (self.new ≡ self.old) }
@@ -325,7 +323,7 @@ impl RunState {
     }
 
     /// The slot that is being sent arrives, with what that does at both databases. At want of memory all is as before.
-    #[tactic(auto, unfolding(run_laws::specs::Sending::sent))]
+    #[tactic(auto, unfolding(queue_rows::specs::Sending::sent))]
     pub fn arrive(&mut self, actor: u32, at: SlotRef, arriving: Arriving) -> Result<(), AllocError>
         requires { (database_at (other_db at.db) self.old).next + 1 < 2 ^ 64 }
         ensures ok { OnOk result (self.new ≡ sent actor (arrives at (meant arriving)) self.old) }
@@ -344,7 +342,7 @@ impl RunState {
     }
 
     /// The slot that was sent is done, which commits this where it came from. At want of memory all is as before.
-    #[tactic(auto, unfolding(run_laws::specs::Sending::sent))]
+    #[tactic(auto, unfolding(queue_rows::specs::Sending::sent))]
     pub fn confirm(
         &mut self,
         actor: u32,

@@ -6,15 +6,11 @@ use Rattle.std.proofs.Math.Seq.{get_or-append_seam}
 use Rattle.aq_base.specs.declared.DbId.{DbId}
 use Rattle.aq_base.specs.declared.DbId.TheVariants.{Home, Away}
 use Rattle.queue_rows.specs.Session.{Session}
-use Rattle.run_laws.specs.World.{World, stepped, entry_of}
-use Rattle.queue_rows.specs.World.{at_home, at_away}
-use Rattle.history_fates.specs.Arrivals.{other_db}
+use Rattle.queue_rows.specs.World.{World, stepped, entry_of, at_home, at_away, other_db}
 use Rattle.queue_rows.specs.Propagating.{Arriving}
-use Rattle.run_laws.specs.Sending.{Sending, offers, arrives, confirms, sent, taking_ids, ids_copied, home_of, away_of}
-use Rattle.run_laws.specs.Turns.{called, due_at}
-use Rattle.queue_rows.specs.Turns.{ids_taken}
-use Rattle.run_laws.specs.Legal.{MayStep, CallsSo, ParksSo, TellsSo}
-use Rattle.queue_rows.specs.Legal.{last_entry}
+use Rattle.queue_rows.specs.Sending.{Sending, offers, arrives, confirms, sent, taking_ids, ids_copied, home_of, away_of}
+use Rattle.queue_rows.specs.Turns.{called, due_at, ids_taken}
+use Rattle.queue_rows.specs.Legal.{MayStep, CallsSo, ParksSo, TellsSo, last_entry}
 use Rattle.queue_rows.specs.declared.change.Change.{Change}
 use Rattle.queue_rows.specs.declared.reply.Reply.{Reply}
 use Rattle.queue_rows.specs.declared.history.SlotRef.{SlotRef}

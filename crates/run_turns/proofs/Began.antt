@@ -2,8 +2,8 @@
 use Rattle.std.proofs.Common.{◌≡◌, ℕ, ◌+◌, List, [], refl, ap, ◌∙◌, length}
 use Rattle.aq_base.specs.declared.DbId.{DbId}
 use Rattle.aq_base.specs.declared.DbId.TheVariants.{Home, Away}
-use Rattle.queue_rows.specs.World.{at_home, at_away}
-use Rattle.queue_rows.specs.Turns.{ids_taken}
+use Rattle.queue_rows.specs.World.{at_home, at_away, other_db, World, database_at, opened, read_clock, stepped}
+use Rattle.queue_rows.specs.Turns.{ids_taken, called, due_at, all_durable}
 use Rattle.queue_rows.specs.Session.{Session}
 use Rattle.queue_rows.specs.declared.tables.Tables.{Tables}
 use Rattle.queue_rows.specs.declared.change.Change.{Change}
@@ -11,11 +11,8 @@ use Rattle.queue_rows.specs.declared.reply.Reply.{Reply}
 use Rattle.queue_rows.specs.declared.history.SessionScript.{SessionScript}
 use Rattle.queue_rows.specs.declared.history.Step.{Step}
 use Rattle.queue_rows.specs.declared.history.Step.TheVariants.{Call, Park, Timer, Offer, Arrive, Confirm, Told, Flush, End}
-use Rattle.history_fates.specs.Arrivals.{other_db}
-use Rattle.run_laws.specs.World.{World, database_at, opened, read_clock, stepped}
-use Rattle.run_laws.specs.Sending.{Sending, offers, arrives, confirms, sent, taking_ids, ids_copied, home_of, away_of}
-use Rattle.run_laws.specs.Turns.{called, due_at, all_durable}
-use Rattle.run_laws.specs.Legal.{MayStep, IsLegal, opens, reads, steps}
+use Rattle.queue_rows.specs.Sending.{Sending, offers, arrives, confirms, sent, taking_ids, ids_copied, home_of, away_of}
+use Rattle.queue_rows.specs.Legal.{MayStep, IsLegal, opens, reads, steps}
 use Rattle.run_turns.proofs.Adding.{step_adds}
 use Rattle.run_turns.proofs.Calling.{count_step}
 

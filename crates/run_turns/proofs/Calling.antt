@@ -4,11 +4,10 @@ use Rattle.std.specs.Prelude.{slice_get, slice_set, option_map}
 use Rattle.std.proofs.Math.ListN.{length-map}
 use Rattle.std.proofs.lemmas.Option.{slice_get-get_or, slice_get_within, slice_get-map}
 use Rattle.queue_rows.specs.Session.{Session}
-use Rattle.run_laws.specs.World.{World, opened, read_clock}
-use Rattle.queue_rows.specs.World.{fresh, uncounted}
-use Rattle.run_laws.specs.Sending.{offers, arrives, confirms}
-use Rattle.run_laws.specs.Turns.{due_at}
-use Rattle.run_laws.specs.Legal.{IsLegal, opens, reads, steps, MayStep, IsLegalBy}
+use Rattle.queue_rows.specs.World.{World, opened, read_clock, fresh, uncounted}
+use Rattle.queue_rows.specs.Sending.{offers, arrives, confirms}
+use Rattle.queue_rows.specs.Turns.{due_at}
+use Rattle.queue_rows.specs.Legal.{IsLegal, opens, reads, steps, MayStep, IsLegalBy}
 use Rattle.queue_rows.specs.Order.{call_by, calls_of, numbers_to, CallsInOrder}
 use Rattle.queue_rows.specs.declared.tables.Tables.{Tables}
 use Rattle.queue_rows.specs.declared.history.Entry.{Entry}

@@ -6,12 +6,11 @@ use Rattle.std.proofs.lemmas.Bool.{or_parts, false≢true}
 use Rattle.std.proofs.lemmas.Option.{none-some, slice_get_within}
 use Rattle.aq_base.specs.declared.DbId.TheVariants.{Home, Away}
 use Rattle.queue_rows.specs.Session.{Session, standing_after}
-use Rattle.run_laws.specs.World.{World, opened, read_clock}
-use Rattle.run_laws.specs.Sending.{offers, arrives, confirms}
-use Rattle.run_laws.specs.Turns.{due_at, next_reading, session_turn, telling_turn, timer_turn, propagator_turn, turn_of, turn_of_some, telling_of_some, any_live}
-use Rattle.queue_rows.specs.Turns.{is_live}
-use Rattle.run_laws.specs.Serial.{next_session_turn, next_timer_turn, next_propagator_turn, each, session_turns, background_turns, telling_turns, round}
-use Rattle.run_laws.specs.Legal.{IsLegal, opens, reads, steps, MayStep}
+use Rattle.queue_rows.specs.World.{World, opened, read_clock}
+use Rattle.queue_rows.specs.Sending.{offers, arrives, confirms}
+use Rattle.queue_rows.specs.Turns.{due_at, next_reading, session_turn, telling_turn, timer_turn, propagator_turn, turn_of, turn_of_some, telling_of_some, any_live, is_live}
+use Rattle.queue_rows.specs.Serial.{next_session_turn, next_timer_turn, next_propagator_turn, each, session_turns, background_turns, telling_turns, round}
+use Rattle.queue_rows.specs.Legal.{IsLegal, opens, reads, steps, MayStep}
 use Rattle.queue_rows.specs.declared.tables.Tables.{Tables}
 use Rattle.queue_rows.specs.declared.history.SessionScript.{SessionScript}
 use Rattle.queue_rows.specs.declared.history.Step.{Step}
@@ -95,7 +94,7 @@ session_turn-dead reading i w t d = turn_by reading i (slice_get w.sessions i) w
 
 telling_by : (i : ℕ) (o : Option Session) (w : World) → slice_get w.sessions i ≡ o → AreTold w → any_live w ≡ false → telling_of_some i o w ≡ w
 telling_by i None w e t d = refl
-telling_by i (Some s) w e t d = ap (λ u. Rattle.run_laws.specs.Turns.telling_of i s u w) (t i s e (all_dead w i s d e))
+telling_by i (Some s) w e t d = ap (λ u. Rattle.queue_rows.specs.Turns.telling_of i s u w) (t i s e (all_dead w i s d e))
 
 telling_turn-dead : (i : ℕ) (w : World) → AreTold w → any_live w ≡ false → telling_turn i w ≡ w
 unfolding telling_turn

@@ -11,10 +11,10 @@ use Rattle.queue_rows.specs.declared.history.Entry.{Entry}
 use Rattle.queue_rows.specs.declared.history.Step.{Step}
 use Rattle.queue_rows.specs.declared.history.Step.TheVariants.{Park, Timer, Offer, Arrive, Confirm, Told, Flush, End}
 use Rattle.aq_base.specs.declared.DbId.TheVariants.{Home, Away}
-use Rattle.run_laws.specs.World.{World, read_clock, stepped, with_session, entry_of}
-use Rattle.run_laws.specs.Sending.{Sending, offers, arrives, confirms, next_sending, may_follow, sent}
-use Rattle.run_laws.specs.Statements.{meaning}
-use Rattle.run_laws.specs.Turns.{due_at, is_due, timed, caught_up, begun, own_turn, turned_by, is_durable, all_durable, flushed, told, propagated_by, propagated, drained_once, is_still}
+use Rattle.queue_rows.specs.World.{World, read_clock, stepped, with_session, entry_of}
+use Rattle.queue_rows.specs.Sending.{Sending, offers, arrives, confirms, next_sending, may_follow, sent}
+use Rattle.queue_rows.specs.Statements.{meaning}
+use Rattle.queue_rows.specs.Turns.{due_at, is_due, timed, caught_up, begun, own_turn, turned_by, is_durable, all_durable, flushed, told, propagated_by, propagated, drained_once, is_still}
 use Rattle.run_turns.proofs.Adding.{Adds, adds-stepped, adds-called, offer_adds, arrive_adds, confirm_adds}
 use Rattle.run_turns.proofs.Resting.{caught_up-calm}
 

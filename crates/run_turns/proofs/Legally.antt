@@ -9,9 +9,9 @@ use Rattle.queue_rows.specs.Session.{Session, Untold}
 use Rattle.queue_rows.specs.Meaning.{Meaning, answers, parks}
 use Rattle.queue_rows.specs.Due.{due}
 use Rattle.queue_rows.specs.Propagating.{Dispatch, dispatch}
-use Rattle.queue_rows.specs.World.{committed_tables}
-use Rattle.queue_rows.specs.Turns.{step_readings, step_reading}
-use Rattle.queue_rows.specs.Legal.{is_late, is_first_of_turn, is_timely_after, last_entry}
+use Rattle.queue_rows.specs.World.{committed_tables, other_db, World, Transit, Stage, on_its_way, came, database_at, read_clock, stepped, with_session, entry_of}
+use Rattle.queue_rows.specs.Turns.{step_readings, step_reading, next_reading, due_at, is_due, timed, caught_up, begun, own_turn, turned_by, is_durable, all_durable, flushed, told, propagated_by, propagated, turn_of, turn_of_some, session_turn, telling_of, telling_of_some, telling_turn, any_live, timer_turn, propagator_turn, drained_once, drained, closing_turn}
+use Rattle.queue_rows.specs.Legal.{is_late, is_first_of_turn, is_timely_after, last_entry, IsLegal, reads, steps, MayStep, is_timely, is_sender, is_actor, IsReady}
 use Rattle.queue_rows.specs.declared.tables.Tables.{Tables}
 use Rattle.queue_rows.specs.declared.statement.Statement.{Statement}
 use Rattle.queue_rows.specs.declared.history.Entry.{Entry}
@@ -19,13 +19,9 @@ use Rattle.queue_rows.specs.declared.history.SlotRef.{SlotRef}
 use Rattle.queue_rows.specs.declared.history.Step.{Step}
 use Rattle.queue_rows.specs.declared.history.Step.TheVariants.{Call, Park, Timer, Offer, Arrive, Confirm, Told, Flush, End}
 use Rattle.valid_laws.proofs.Still.{nothing_after}
-use Rattle.history_fates.specs.Arrivals.{other_db}
-use Rattle.run_laws.specs.World.{World, Transit, Stage, on_its_way, came, database_at, read_clock, stepped, with_session, entry_of}
-use Rattle.run_laws.specs.Sending.{Sending, offers, arrives, confirms, dispatch_at, picked, offer_of, arrival_of, confirmation_of, sending_on, sending_of, next_sending, is_durable_at, may_follow, sent}
-use Rattle.run_laws.specs.Statements.{slot_sent, meaning, next_statement}
-use Rattle.run_laws.specs.Turns.{next_reading, due_at, is_due, timed, caught_up, begun, own_turn, turned_by, is_durable, all_durable, flushed, told, propagated_by, propagated, turn_of, turn_of_some, session_turn, telling_of, telling_of_some, telling_turn, any_live, timer_turn, propagator_turn, drained_once, drained, closing_turn}
-use Rattle.run_laws.specs.Serial.{next_session_turn, next_timer_turn, next_propagator_turn, each, session_turns, background_turns, round, rounds, at_closing, next_closing_turn}
-use Rattle.run_laws.specs.Legal.{IsLegal, reads, steps, MayStep, is_timely, is_sender, is_actor, IsReady}
+use Rattle.queue_rows.specs.Sending.{Sending, offers, arrives, confirms, dispatch_at, picked, offer_of, arrival_of, confirmation_of, sending_on, sending_of, next_sending, is_durable_at, may_follow, sent}
+use Rattle.queue_rows.specs.Statements.{slot_sent, meaning, next_statement}
+use Rattle.queue_rows.specs.Serial.{next_session_turn, next_timer_turn, next_propagator_turn, each, session_turns, background_turns, round, rounds, at_closing, next_closing_turn}
 use Rattle.run_laws.specs.ValidRun.{IsValidWorld}
 use Rattle.run_laws.proofs.Sendings.{confirms_so}
 use Rattle.run_laws.proofs.Stepping.{step_sessions, step_transit}

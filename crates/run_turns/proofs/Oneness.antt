@@ -6,12 +6,11 @@ use Rattle.std.proofs.lemmas.Option.{slice_get_within}
 use Rattle.aq_base.specs.declared.DbId.TheVariants.{Home, Away}
 use Rattle.queue_rows.specs.Session.{Session, Untold}
 use Rattle.queue_rows.specs.Meaning.{Meaning, answers, parks}
-use Rattle.run_laws.specs.Statements.{meaning, next_statement}
-use Rattle.run_laws.specs.World.{World, opened, read_clock, stepped, with_session}
-use Rattle.queue_rows.specs.World.{uncounted}
-use Rattle.run_laws.specs.Sending.{Sending, next_sending, may_follow}
-use Rattle.run_laws.specs.Turns.{due_at, next_reading, begun, caught_up, timed, is_due, called, ended, turned_by, own_turn, is_durable, flushed, all_durable, told, propagated, propagated_by, turn_of, turn_of_some, session_turn, telling_of, telling_of_some, telling_turn, timer_turn, propagator_turn, any_live, drained, drained_once, DrainsIn, closing_turn}
-use Rattle.run_laws.specs.Serial.{next_session_turn, next_timer_turn, next_propagator_turn, each, session_turns, round, rounds, EndsIn, at_closing, next_closing_turn, IsSerial}
+use Rattle.queue_rows.specs.Statements.{meaning, next_statement}
+use Rattle.queue_rows.specs.World.{World, opened, read_clock, stepped, with_session, uncounted}
+use Rattle.queue_rows.specs.Sending.{Sending, next_sending, may_follow}
+use Rattle.queue_rows.specs.Turns.{due_at, next_reading, begun, caught_up, timed, is_due, called, ended, turned_by, own_turn, is_durable, flushed, all_durable, told, propagated, propagated_by, turn_of, turn_of_some, session_turn, telling_of, telling_of_some, telling_turn, timer_turn, propagator_turn, any_live, drained, drained_once, DrainsIn, closing_turn}
+use Rattle.queue_rows.specs.Serial.{next_session_turn, next_timer_turn, next_propagator_turn, each, session_turns, round, rounds, EndsIn, at_closing, next_closing_turn, IsSerial}
 use Rattle.queue_rows.specs.declared.tables.Tables.{Tables}
 use Rattle.queue_rows.specs.declared.reply.Reply.{Reply}
 use Rattle.queue_rows.specs.declared.change.Change.{Change}

@@ -8,15 +8,12 @@ use Rattle.std.proofs.lemmas.Bool.{cases_lt, eq-eqb, eqb-true}
 use Rattle.std.proofs.lemmas.List.{append-nil}
 use Rattle.queue_rows.specs.declared.reply.Reply.{Reply}
 use Rattle.aq_base.specs.declared.DbId.TheVariants.{Home, Away}
-use Rattle.queue_rows.specs.Session.{Session}
+use Rattle.queue_rows.specs.Session.{Session, standing_after}
 use Rattle.queue_rows.specs.Statements.{statement_of}
-use Rattle.run_laws.specs.World.{World, stepped, entry_of, read_clock}
-use Rattle.queue_rows.specs.World.{at_home, at_away}
-use Rattle.run_laws.specs.Sending.{offers, arrives, confirms, taking_ids}
-use Rattle.queue_rows.specs.Session.{standing_after}
-use Rattle.run_laws.specs.Turns.{called, having_called, ended, due_at}
-use Rattle.queue_rows.specs.Turns.{ids_taken}
-use Rattle.run_laws.specs.Legal.{IsLegal, opens, reads, steps, MayStep, CallsSo}
+use Rattle.queue_rows.specs.World.{World, stepped, entry_of, read_clock, at_home, at_away}
+use Rattle.queue_rows.specs.Sending.{offers, arrives, confirms, taking_ids}
+use Rattle.queue_rows.specs.Turns.{called, having_called, ended, due_at, ids_taken}
+use Rattle.queue_rows.specs.Legal.{IsLegal, opens, reads, steps, MayStep, CallsSo}
 use Rattle.queue_rows.specs.Order.{number_called, call_by, calls_of, numbers_to}
 use Rattle.queue_rows.specs.declared.change.Change.{Change}
 use Rattle.queue_rows.specs.declared.history.Entry.{Entry}

@@ -2,10 +2,9 @@
 use Rattle.std.proofs.Common.{◌≡◌, ℕ, Bool, true, false, Some, None, refl, sym, ap, ◌∙◌}
 use Rattle.std.specs.Prelude.{slice_get, if◌then◌else◌}
 use Rattle.queue_rows.specs.Session.{Session, Untold}
-use Rattle.queue_rows.specs.Statements.{statement_of}
-use Rattle.run_laws.specs.World.{World, read_clock, stepped}
-use Rattle.run_laws.specs.Statements.{next_statement}
-use Rattle.run_laws.specs.Turns.{is_due, timed, caught_up, begun, own_turn, told, turn_of, turn_of_some, session_turn, any_live, propagated, timer_turn, propagator_turn}
+use Rattle.queue_rows.specs.Statements.{statement_of, next_statement}
+use Rattle.queue_rows.specs.World.{World, read_clock, stepped}
+use Rattle.queue_rows.specs.Turns.{is_due, timed, caught_up, begun, own_turn, told, turn_of, turn_of_some, session_turn, any_live, propagated, timer_turn, propagator_turn}
 use Rattle.run_turns.proofs.Growing.{Grows, grows_trans, grows_caught, grows_own, grows_propagated}
 
 pub session_none : (reading i : ℕ) (w : World) → slice_get w.sessions i ≡ None → session_turn reading i w ≡ w

@@ -1,17 +1,15 @@
 -- The serial history is legal, and so is a first part of it.
 use Rattle.std.proofs.Common.{◌≡◌, ℕ, ◌⊎◌, inl, inr, List, [], ◌∷◌, ◌++◌, refl, sym, subst, ◌∙◌, map}
-use Rattle.queue_rows.specs.World.{opening_moment, uncounted}
+use Rattle.queue_rows.specs.World.{opening_moment, uncounted, World, opened, read_clock, entry_of}
 use Rattle.queue_rows.specs.Order.{IsFront}
-use Rattle.queue_rows.specs.Turns.{step_readings}
+use Rattle.queue_rows.specs.Turns.{step_readings, drained}
 use Rattle.queue_rows.specs.declared.tables.Tables.{Tables}
 use Rattle.queue_rows.specs.declared.history.Entry.{Entry}
 use Rattle.queue_rows.specs.declared.history.History.{History}
 use Rattle.queue_rows.specs.declared.history.SessionScript.{SessionScript}
 use Rattle.world_laws.specs.WorldLaws.{MayBegin}
-use Rattle.run_laws.specs.World.{World, opened, read_clock, entry_of}
-use Rattle.run_laws.specs.Turns.{drained}
-use Rattle.run_laws.specs.Serial.{rounds, at_closing, next_closing_turn, IsSerial, IsSerialFront, AreSerial, IsOnTheWay, in_rounds, in_closing, in_all}
-use Rattle.run_laws.specs.Legal.{IsLegal, opens, reads, steps, IsLegalBy, IsLegalHistory}
+use Rattle.queue_rows.specs.Serial.{rounds, at_closing, next_closing_turn, IsSerial, IsSerialFront, AreSerial, IsOnTheWay, in_rounds, in_closing, in_all}
+use Rattle.queue_rows.specs.Legal.{IsLegal, opens, reads, steps, IsLegalBy, IsLegalHistory}
 use Rattle.run_laws.proofs.Worlds.{opens_valid}
 use Rattle.run_turns.proofs.Adding.{step_adds}
 use Rattle.run_turns.proofs.Calling.{entries-opened}

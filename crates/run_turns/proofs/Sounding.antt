@@ -10,9 +10,9 @@ use Rattle.queue_rows.specs.Rows.{find_message, find_queue, find_table}
 use Rattle.queue_rows.specs.Tables.{after_change, after_all, after, drop_queue, drop_table, move_in, move_some}
 use Rattle.queue_rows.specs.Session.{Session, Untold}
 use Rattle.queue_rows.specs.Propagating.{Dispatch, Arriving, has_seen, is_pair, copy_of, taken_in}
-use Rattle.queue_rows.specs.World.{fresh, at_home, at_away, committed_tables, commits_in}
-use Rattle.queue_rows.specs.Turns.{ids_taken}
-use Rattle.queue_rows.specs.Legal.{last_entry}
+use Rattle.queue_rows.specs.World.{fresh, at_home, at_away, committed_tables, commits_in, other_db, World, Stage, on_its_way, came, Transit, database_at, opened, read_clock, stepped, with_session, entry_of}
+use Rattle.queue_rows.specs.Turns.{ids_taken, due_at, timed, untold_in, having_called, called_in, standing, called, all_durable}
+use Rattle.queue_rows.specs.Legal.{last_entry, MayStep, IsLegal, opens, reads, steps}
 use Rattle.queue_rows.specs.declared.tables.Tables.{Tables}
 use Rattle.queue_rows.specs.declared.rows.MsgRow.{MsgRow}
 use Rattle.queue_rows.specs.declared.rows.SeenRow.{SeenRow}
@@ -27,12 +27,8 @@ use Rattle.queue_rows.specs.declared.history.Arrival.TheVariants.{Copied, Seen, 
 use Rattle.queue_rows.specs.declared.history.Step.{Step}
 use Rattle.queue_rows.specs.declared.history.Step.TheVariants.{Call, Park, Timer, Offer, Arrive, Confirm, Told, Flush, End}
 use Rattle.queue_rows.proofs.Sessions.{get_set-cases}
-use Rattle.history_fates.specs.Arrivals.{other_db}
 use Rattle.history_fates.proofs.Commits.{empty_if}
-use Rattle.run_laws.specs.World.{World, Stage, on_its_way, came, Transit, database_at, opened, read_clock, stepped, with_session, entry_of}
-use Rattle.run_laws.specs.Sending.{taking_ids, with_transit, sent, offers, arrives, confirms, next_sending, ids_copied, home_of, away_of, pair_number, transit_after, came_to}
-use Rattle.run_laws.specs.Turns.{due_at, timed, untold_in, having_called, called_in, standing, called, all_durable}
-use Rattle.run_laws.specs.Legal.{MayStep, IsLegal, opens, reads, steps}
+use Rattle.queue_rows.specs.Sending.{taking_ids, with_transit, sent, offers, arrives, confirms, next_sending, ids_copied, home_of, away_of, pair_number, transit_after, came_to}
 use Rattle.run_laws.specs.ValidRun.{IsValidWorld}
 use Rattle.run_laws.proofs.Arriving.{ArrivesAs, as_seen, as_failed, as_copied}
 use Rattle.run_laws.proofs.Committing.{arrives_here}

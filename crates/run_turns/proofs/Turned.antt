@@ -7,13 +7,12 @@ use Rattle.std.proofs.lemmas.Option.{slice_get_within, slice_get-get_or}
 use Rattle.aq_base.specs.declared.DbId.TheVariants.{Home, Away}
 use Rattle.queue_rows.specs.Session.{Session, Untold}
 use Rattle.queue_rows.specs.Meaning.{Meaning, answers, parks}
-use Rattle.run_laws.specs.Statements.{meaning, next_statement}
-use Rattle.run_laws.specs.World.{World, opened, read_clock, stepped, with_session}
-use Rattle.queue_rows.specs.World.{fresh}
-use Rattle.run_laws.specs.Sending.{Sending, offers, arrives, confirms, next_sending, may_follow, sent}
-use Rattle.run_laws.specs.Turns.{due_at, next_reading, begun, caught_up, timed, is_due, called, parked, ended, turned_by, own_turn, is_durable, flushed, all_durable, told, propagated, propagated_by, turn_of, turn_of_some, session_turn, telling_of, telling_of_some, telling_turn, timer_turn, propagator_turn, any_live, drained, closing_turn}
-use Rattle.run_laws.specs.Serial.{next_session_turn, next_timer_turn, each, session_turns, round, rounds, next_closing_turn, at_closing, IsSerial}
-use Rattle.queue_rows.specs.Order.{calls_of, numbers_to, CallsAll}
+use Rattle.queue_rows.specs.Statements.{meaning, next_statement}
+use Rattle.queue_rows.specs.World.{World, opened, read_clock, stepped, with_session, fresh}
+use Rattle.queue_rows.specs.Sending.{Sending, offers, arrives, confirms, next_sending, may_follow, sent}
+use Rattle.queue_rows.specs.Turns.{due_at, next_reading, begun, caught_up, timed, is_due, called, parked, ended, turned_by, own_turn, is_durable, flushed, all_durable, told, propagated, propagated_by, turn_of, turn_of_some, session_turn, telling_of, telling_of_some, telling_turn, timer_turn, propagator_turn, any_live, drained, closing_turn}
+use Rattle.queue_rows.specs.Serial.{next_session_turn, next_timer_turn, each, session_turns, round, rounds, next_closing_turn, IsSerial}
+use Rattle.queue_rows.specs.Order.{calls_of, numbers_to, CallsAll, number_called}
 use Rattle.queue_rows.specs.declared.tables.Tables.{Tables}
 use Rattle.queue_rows.specs.declared.reply.Reply.{Reply}
 use Rattle.queue_rows.specs.declared.change.Change.{Change}
@@ -22,7 +21,6 @@ use Rattle.queue_rows.specs.declared.history.History.{History}
 use Rattle.queue_rows.specs.declared.history.SessionScript.{SessionScript}
 use Rattle.queue_rows.specs.declared.history.Step.{Step}
 use Rattle.queue_rows.specs.declared.history.Step.TheVariants.{Call, Park, Timer, Offer, Arrive, Confirm, Told, Flush, End}
-use Rattle.queue_rows.specs.Order.{number_called}
 use Rattle.queue_rows.proofs.Sessions.{get_set-cases}
 use Rattle.run_turns.proofs.Adding.{Adds, adds_so, adds-stepped, adds-called, offer_adds, arrive_adds, confirm_adds, sessions-stepped, sessions-sent}
 use Rattle.run_turns.proofs.Standing.{kept_from, length-standing}
@@ -191,7 +189,7 @@ module _ (start : World) where
       let ka = kept-each next_session_turn (length w.sessions) w (λ i v. kept-session_turn (next_reading v) i v) k in
       let b = next_timer_turn a in
       let kb = kept-timer (next_reading a) a ka in
-      let c = Rattle.run_laws.specs.Serial.next_propagator_turn b in
+      let c = Rattle.queue_rows.specs.Serial.next_propagator_turn b in
       kept-each telling_turn (length c.sessions) c kept-telling_turn (kept-propagator (next_reading b) b kb)
 
   kept-rounds : (n : ℕ) (w : World) → IsKeptOf start w → IsKeptOf start (rounds n w)

@@ -1,16 +1,14 @@
 -- The laws of the serial history, and of the calls of every legal one.
 use Rattle.std.specs.Prelude.{◌≡◌, ℕ, List, map, true, false}
-use Rattle.queue_rows.specs.World.{uncounted}
-use Rattle.queue_rows.specs.Turns.{step_readings}
+use Rattle.queue_rows.specs.World.{uncounted, World, opened}
+use Rattle.queue_rows.specs.Turns.{step_readings, any_live, is_still, drained_once}
 use Rattle.queue_rows.specs.Order.{CallsAll, CallsInOrder}
 use Rattle.queue_rows.specs.declared.tables.Tables.{Tables}
 use Rattle.queue_rows.specs.declared.history.History.{History}
 use Rattle.queue_rows.specs.declared.history.SessionScript.{SessionScript}
 use Rattle.world_laws.specs.WorldLaws.{MayBegin}
-use Rattle.run_laws.specs.World.{World, opened}
-use Rattle.run_laws.specs.Turns.{any_live, is_still, drained_once}
-use Rattle.run_laws.specs.Serial.{round, IsSerial, IsSerialFront}
-use Rattle.run_laws.specs.Legal.{IsLegal, IsLegalBy, IsLegalHistory}
+use Rattle.queue_rows.specs.Serial.{round, IsSerial, IsSerialFront}
+use Rattle.queue_rows.specs.Legal.{IsLegal, IsLegalBy, IsLegalHistory}
 
 -- a round in which no session is live changes nothing, and neither does a step of the closing turn when all is still
 abbrev pub EndedStays : Type 0

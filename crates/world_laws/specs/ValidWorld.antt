@@ -1,9 +1,8 @@
--- What holds of a world at each moment of a legal history.
+-- What scripts may ask, and what holds of a database at each moment of a legal history.
 use Rattle.std.specs.Prelude.{◌≡◌, ◌≤◌, ℕ, List, true, None}
 use Rattle.aq_base.specs.declared.DbId.{DbId}
-use Rattle.aq_base.specs.declared.limits.TheConstants.{MOMENT_LIMIT, NEXT_LIMIT}
+use Rattle.aq_base.specs.declared.limits.TheConstants.{NEXT_LIMIT}
 use Rattle.queue_rows.specs.Session.{Session}
-use Rattle.queue_rows.specs.World.{World, database_at}
 use Rattle.queue_rows.specs.Within.{are_within}
 use Rattle.queue_rows.specs.Valid.{is_valid}
 use Rattle.queue_rows.specs.declared.tables.Tables.{Tables}
@@ -29,13 +28,3 @@ pub record IsRight (t : Tables) (db : DbId) (next moment : ℕ) (sessions : List
   pub latest : t.latest ≤ moment
   pub standing : AreStanding t db next moment sessions
   pub most : next ≤ NEXT_LIMIT
-
--- ---- a world
-
--- Both databases are right, the moment is none past the greatest, and the scripts are as they may be. Nothing is being sent: no step
--- that is legal so far takes a slot up.
-pub record IsValidWorld (w : World) : Type 0 where
-  pub databases : (db : DbId) → IsRight (database_at db w).tables db (database_at db w).next w.moment w.sessions
-  pub last : w.moment ≤ MOMENT_LIMIT
-  pub scripts : AreScripts w.scripts
-  pub still : w.transit ≡ None

@@ -1,10 +1,8 @@
-//! Laws of worlds: each world of a legal history is valid.
+//! What a history may begin with, and that a statement which is answered leaves its database right.
 //!
-//! Each law is a function with an empty body, whose clause is the law; a caller that calls it has it.
+//! The law is a function with an empty body, whose clause is the law; a caller that calls it has it.
 #![tactic(auto)]
 
 mod laws;
 
-pub use laws::{
-    call_fits, example_begins, legal_is_valid, opens_valid, reading_keeps_valid, step_keeps_valid,
-};
+pub use laws::example_begins;

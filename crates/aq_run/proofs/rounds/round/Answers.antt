@@ -1,5 +1,5 @@
 use Rattle.std.proofs.Common.{arith, ap}
-use Rattle.run_laws.specs.Turns.{next_reading}
+use Rattle.queue_rows.specs.Turns.{next_reading}
 use Rattle.aq_run.proofs.Closing.{ends_on}
 use Rattle.aq_run.proofs.Fronts.{front_sessions, front_timer, front_propagator, front_telling, round_is}
 use Rattle.aq_run.proofs.Passing.{passes-trans}

@@ -1,5 +1,5 @@
 use Rattle.std.proofs.Common.{◌≡◌, true, false, sym, ◌∙◌}
-use Rattle.run_laws.specs.Turns.{any_live}
+use Rattle.queue_rows.specs.Turns.{any_live}
 use Rattle.aq_run.proofs.Closing.{ends_on}
 use Rattle.aq_run.proofs.Passing.{passes-refl, passes-trans}
 use Rattle.aq_run.proofs.Results.{on_err, ok_from, err_from}

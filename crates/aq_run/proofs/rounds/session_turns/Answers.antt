@@ -1,5 +1,5 @@
 use Rattle.std.proofs.Common.{◌<◌, length, rules, refl, arith, ap}
-use Rattle.run_laws.specs.Serial.{next_session_turn}
+use Rattle.queue_rows.specs.Serial.{next_session_turn}
 use Rattle.aq_run.proofs.Fronts.{grows-session_turn, each_next, each_front}
 use Rattle.aq_run.proofs.Passing.{passes-refl, passes-trans}
 use Rattle.aq_run.proofs.Progress.{same_count, few_readings}

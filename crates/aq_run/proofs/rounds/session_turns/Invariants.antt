@@ -1,5 +1,5 @@
 use Rattle.std.proofs.Common.{◌≡◌}
-use Rattle.run_laws.specs.Serial.{each, next_session_turn}
+use Rattle.queue_rows.specs.Serial.{each, next_session_turn}
 use Rattle.durable_state.specs.Held.{HasFailed}
 use Rattle.aq_run.specs.Passing.{Passes}
 use Rattle.aq_run.proofs.rounds.session_turns.Given as goal

@@ -1,6 +1,6 @@
 use Rattle.std.proofs.Common.{◌≡◌}
-use Rattle.run_laws.specs.Serial.{each}
-use Rattle.run_laws.specs.Turns.{telling_turn}
+use Rattle.queue_rows.specs.Serial.{each}
+use Rattle.queue_rows.specs.Turns.{telling_turn}
 use Rattle.durable_state.specs.Held.{HasFailed}
 use Rattle.aq_run.specs.Passing.{Passes}
 use Rattle.aq_run.proofs.rounds.telling_turns.Given as goal

@@ -1,8 +1,7 @@
 use Rattle.std.proofs.Common.{◌≡◌, Some, sym, ap, ◌∙◌, option_map}
 use Rattle.std.specs.Prelude.{slice_get, option_copied}
 use Rattle.queue_rows.specs.Session.{Session}
-use Rattle.queue_rows.specs.Statements.{statement_of}
-use Rattle.run_laws.specs.Statements.{next_statement}
+use Rattle.queue_rows.specs.Statements.{statement_of, next_statement}
 use Rattle.run_state.specs.Sessions.{session_of, unmarked}
 use Rattle.aq_world.specs.Stepping.{IsNext}
 use Rattle.aq_world.proofs.Calls.{session_there, caller_in, may_call, next_means}

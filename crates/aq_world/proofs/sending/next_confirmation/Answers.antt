@@ -1,5 +1,5 @@
 use Rattle.std.proofs.Common.{◌+◌, ap, ◌∙◌}
-use Rattle.run_laws.specs.World.{came}
+use Rattle.queue_rows.specs.World.{came}
 use Rattle.aq_world.proofs.Sendings.{is_dispatched}
 use Rattle.aq_world.proofs.sending.next_confirmation.Goals as goal
 

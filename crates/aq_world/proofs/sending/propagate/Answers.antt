@@ -1,7 +1,7 @@
 use Rattle.std.proofs.Common.{◌≡◌, Some, option_map, sym, ap, subst, ◌∙◌}
 use Rattle.queue_rows.specs.Order.{IsFront}
-use Rattle.run_laws.specs.Sending.{next_sending}
-use Rattle.run_laws.specs.Turns.{propagated}
+use Rattle.queue_rows.specs.Sending.{next_sending}
+use Rattle.queue_rows.specs.Turns.{propagated}
 use Rattle.aq_world.specs.Sendings.{sending_meant}
 use Rattle.aq_world.proofs.Sendings.{ready_front, sent_whole}
 use Rattle.aq_world.proofs.Turning.{at_err}

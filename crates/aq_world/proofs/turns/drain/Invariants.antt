@@ -1,5 +1,5 @@
 use Rattle.std.proofs.Common.{◌≡◌, ◌-◌, ◌^◌, ℕ, length}
-use Rattle.run_laws.specs.Turns.{drained}
+use Rattle.queue_rows.specs.Turns.{drained}
 use Rattle.aq_world.specs.Going.{GoesQuietly}
 use Rattle.aq_world.proofs.turns.drain.Given as goal
 

@@ -1,5 +1,5 @@
 use Rattle.std.proofs.Common.{sym, ap, ◌∙◌}
-use Rattle.run_laws.specs.Turns.{any_live}
+use Rattle.queue_rows.specs.Turns.{any_live}
 use Rattle.aq_world.proofs.Turning.{at_err, propagator_read_front, valid_begun}
 use Rattle.aq_world.proofs.Goings.{as_memory, as_on, as_ok, as_passed, quiet_ok, quiet_on, quiet_same}
 use Rattle.aq_world.proofs.turns.propagator_turn.Goals as goal

@@ -1,6 +1,6 @@
 use Rattle.std.proofs.Common.{◌≡◌, ℕ, subst}
-use Rattle.run_laws.specs.Serial.{at_closing, next_closing_turn}
-use Rattle.run_laws.specs.Turns.{DrainsIn}
+use Rattle.queue_rows.specs.Serial.{at_closing, next_closing_turn}
+use Rattle.queue_rows.specs.Turns.{DrainsIn}
 use Rattle.durable_state.specs.Going.{Goes}
 use Rattle.durable_state.specs.Held.{HasFailed}
 use Rattle.aq_world.specs.Turning.{IsUnclosed, IsOfRun}

@@ -1,6 +1,6 @@
 use Rattle.std.proofs.Common.{◌≡◌, ◌⊎◌, sym, ap, subst, ◌∙◌}
 use Rattle.queue_rows.specs.Order.{IsFront}
-use Rattle.run_laws.specs.Turns.{next_reading}
+use Rattle.queue_rows.specs.Turns.{next_reading}
 use Rattle.durable_state.specs.Going.{Goes}
 use Rattle.durable_state.specs.Held.{HasFailed}
 use Rattle.aq_world.specs.Turning.{IsActor, IsBrokenOff, next_turned, turn_end}

@@ -1,7 +1,7 @@
 use Rattle.std.proofs.Common.{◌≡◌, List, ap, ◌∙◌, subst}
 use Rattle.queue_rows.specs.Propagating.{Arriving}
 use Rattle.queue_rows.specs.declared.change.Change.{Change}
-use Rattle.run_laws.specs.Sending.{home_of, away_of}
+use Rattle.queue_rows.specs.Sending.{home_of, away_of}
 use Rattle.durable_state.specs.declared.run_logs.Entered.{Entered}
 use Rattle.durable_state.specs.Going.{Goes}
 use Rattle.durable_state.specs.Held.{Held, HasFailed}

@@ -1,6 +1,6 @@
 use Rattle.std.proofs.Common.{◌≡◌, [], true, false, sym, ap, ◌∙◌, subst}
-use Rattle.run_laws.specs.Turns.{flushed, is_durable}
-use Rattle.run_laws.specs.World.{World}
+use Rattle.queue_rows.specs.Turns.{flushed, is_durable}
+use Rattle.queue_rows.specs.World.{World}
 use Rattle.durable_state.specs.Going.{Goes}
 use Rattle.durable_state.specs.Held.{Held}
 use Rattle.durable_state.specs.Queueing.{with_numbers}

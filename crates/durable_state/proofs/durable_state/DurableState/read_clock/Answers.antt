@@ -1,5 +1,5 @@
 use Rattle.std.proofs.Common.{ap, sym, ◌∙◌, length, subst}
-use Rattle.run_laws.specs.World.{World}
+use Rattle.queue_rows.specs.World.{World}
 use Rattle.durable_state.specs.Going.{Goes}
 use Rattle.durable_state.specs.Held.{Held}
 use Rattle.durable_state.proofs.Stepping.{held_of, still_goes}

@@ -1,7 +1,6 @@
 use Rattle.std.proofs.Common.{◌≡◌, ◌⊎◌, inr, [], Some, sym, ap, ◌∙◌, subst}
 use Rattle.std.specs.Prelude.{option_copied, option_map, slice_get}
-use Rattle.run_laws.specs.Turns.{flushed}
-use Rattle.run_laws.specs.World.{World}
+use Rattle.queue_rows.specs.Turns.{flushed}
 use Rattle.run_state.specs.Sessions.{session_of, unmarked}
 use Rattle.run_state.proofs.Results.{err_from, on_err}
 use Rattle.durable_state.specs.Going.{Goes, goes_on}

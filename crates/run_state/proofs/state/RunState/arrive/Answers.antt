@@ -1,6 +1,6 @@
 use Rattle.std.proofs.Common.{sym, ap, option_map, arith}
 use Rattle.queue_rows.specs.declared.history.Step.TheVariants.{Arrive}
-use Rattle.run_laws.specs.World.{World, database_at}
+use Rattle.queue_rows.specs.World.{World, database_at}
 use Rattle.run_state.specs.Sendings.{transit_of}
 use Rattle.run_state.proofs.Putting.{run_of}
 use Rattle.run_state.proofs.Calls.{next_sent, copies_few}

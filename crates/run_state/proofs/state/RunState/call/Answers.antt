@@ -1,8 +1,8 @@
 use Rattle.std.proofs.Common.{◌≡◌, ◌+◌, ◌<◌, ◌^◌, Some, sym, ap, subst, ◌∙◌, option_map, arith}
 use Rattle.std.specs.Prelude.{option_copied, slice_get}
 use Rattle.queue_rows.specs.declared.history.Step.TheVariants.{Call}
-use Rattle.run_laws.specs.Sending.{taking_ids}
-use Rattle.run_laws.specs.World.{database_at}
+use Rattle.queue_rows.specs.Sending.{taking_ids}
+use Rattle.queue_rows.specs.World.{database_at}
 use Rattle.run_state.specs.CallEffects.{called_with}
 use Rattle.run_state.specs.Sendings.{transit_of}
 use Rattle.run_state.specs.Sessions.{session_of, unmarked, OfSession}

@@ -1,6 +1,6 @@
 use Rattle.std.proofs.Common.{ap, ◌∙◌}
 use Rattle.std.specs.Prelude.{option_map}
-use Rattle.run_laws.specs.World.{World}
+use Rattle.queue_rows.specs.World.{World}
 use Rattle.run_state.specs.Sendings.{transit_of}
 use Rattle.run_state.specs.Sessions.{changed_at, after_end}
 use Rattle.run_state.proofs.Results.{if_some}

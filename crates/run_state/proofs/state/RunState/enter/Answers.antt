@@ -1,7 +1,6 @@
 use Rattle.std.proofs.Common.{refl, ap, ◌∙◌}
 use Rattle.std.specs.Prelude.{option_map, map}
-use Rattle.queue_rows.specs.World.{uncounted}
-use Rattle.run_laws.specs.World.{World, stepped}
+use Rattle.queue_rows.specs.World.{uncounted, World, stepped}
 use Rattle.run_state.specs.Entries.{HasNoCalls}
 use Rattle.run_state.specs.Sendings.{transit_of}
 use Rattle.run_state.proofs.Results.{all_pushed}

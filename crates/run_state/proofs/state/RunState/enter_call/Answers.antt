@@ -1,7 +1,6 @@
 use Rattle.std.proofs.Common.{refl, ap, sym, subst, ◌∙◌}
 use Rattle.std.specs.Prelude.{option_map, map}
-use Rattle.queue_rows.specs.World.{uncounted}
-use Rattle.run_laws.specs.World.{World}
+use Rattle.queue_rows.specs.World.{uncounted, World}
 use Rattle.run_state.specs.CallEffects.{IsFreeOf, entered_call}
 use Rattle.run_state.specs.Entries.{HasNoCalls}
 use Rattle.run_state.specs.Sendings.{transit_of}

@@ -1,7 +1,7 @@
 use Rattle.std.proofs.Common.{◌≡◌, Some, true, false, sym, ap, ◌∙◌, option_map, is_some, rules}
 use Rattle.std.specs.Prelude.{option_copied, slice_get}
-use Rattle.run_laws.specs.Turns.{parked}
-use Rattle.run_laws.specs.World.{World}
+use Rattle.queue_rows.specs.Turns.{parked}
+use Rattle.queue_rows.specs.World.{World}
 use Rattle.run_state.specs.Sendings.{transit_of}
 use Rattle.run_state.specs.Sessions.{session_of, unmarked, changed_at, after_park}
 use Rattle.run_state.proofs.Results.{some_of}

@@ -1,7 +1,7 @@
 use Rattle.std.proofs.Common.{[], ap, ◌∙◌}
 use Rattle.std.specs.Prelude.{option_map}
 use Rattle.queue_rows.specs.declared.history.Step.TheVariants.{Told}
-use Rattle.run_laws.specs.World.{World, stepped}
+use Rattle.queue_rows.specs.World.{World, stepped}
 use Rattle.run_state.specs.Sendings.{transit_of}
 use Rattle.run_state.specs.Sessions.{changed_at, after_reply}
 use Rattle.run_state.proofs.Results.{if_some}

@@ -5,9 +5,7 @@ use Rattle.std.specs.Option.{option_or}
 use Rattle.aq_base.specs.declared.DbId.{DbId}
 use Rattle.aq_base.specs.declared.DbId.TheVariants.{Home, Away}
 use Rattle.queue_rows.specs.Propagating.{Dispatch, dispatch, Arriving, arriving, confirming, pick, is_pair}
-use Rattle.queue_rows.specs.World.{at_home, at_away}
-use Rattle.history_fates.specs.Arrivals.{other_db}
-use Rattle.run_laws.specs.World.{World, Database, Stage, on_its_way, came, Transit, database_at, stepped}
+use Rattle.queue_rows.specs.World.{World, Database, Stage, on_its_way, came, Transit, database_at, other_db, at_home, at_away, stepped}
 use Rattle.queue_rows.specs.declared.tables.Tables.{Tables}
 use Rattle.queue_rows.specs.declared.change.Change.{Change}
 use Rattle.queue_rows.specs.declared.history.SlotRef.{SlotRef}

@@ -1,5 +1,0 @@
-use Rattle.history_fates.proofs.Example.{example_is_sent}
-use Rattle.history_fates.proofs.laws.example_is_sent.Goals as goal
-
-pub returns : goal.returns
-returns c = example_is_sent

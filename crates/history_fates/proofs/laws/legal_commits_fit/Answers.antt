@@ -1,5 +1,0 @@
-use Rattle.history_fates.proofs.Lasting.{legal_commits_fit}
-use Rattle.history_fates.proofs.laws.legal_commits_fit.Goals as goal
-
-pub returns : goal.returns
-returns c = legal_commits_fit

@@ -1,5 +1,0 @@
-use Rattle.world_laws.proofs.Worlds.{legal_is_valid}
-use Rattle.world_laws.proofs.laws.legal_is_valid.Goals as goal
-
-pub returns : goal.returns
-returns c = legal_is_valid

@@ -1,5 +1,0 @@
-use Rattle.world_laws.proofs.Worlds.{reading_keeps_valid}
-use Rattle.world_laws.proofs.laws.reading_keeps_valid.Goals as goal
-
-pub returns : goal.returns
-returns c = reading_keeps_valid

@@ -1,5 +1,0 @@
-use Rattle.world_laws.proofs.Worlds.{step_keeps_valid}
-use Rattle.world_laws.proofs.laws.step_keeps_valid.Goals as goal
-
-pub returns : goal.returns
-returns c = step_keeps_valid
