@@ -95,6 +95,13 @@ impl Name {
         })
     }
 
+    /// Whether it could be read as a name: so it is, unless a text behind it has made it none. It takes no memory.
+    pub fn is_name(&self) -> bool
+        ensures { result ≡ is_name self.now }
+    {
+        is_name(self.as_str().as_bytes())
+    }
+
     /// The name with a text behind it. Nothing holds it to the limit of a name that is read.
     pub fn with_suffix(&self, suffix: &str) -> Result<Name, AllocError>
         ensures { IfOk result (λ name. name ≡ self.now ++ suffix.now) }

@@ -156,7 +156,8 @@ fn cells_of(
 ) -> Result<List<Datum>, AllocError>
     ensures { IfOk result (λ cells. cells ≡ cells_of fields.now members.now) }
 {
-    let mut cells = List::new(alloc);
+    // Messages and histories keep records: so there is room for these cells, and for no more.
+    let mut cells = List::from_vec(Vec::with_capacity(alloc, fields.len())?);
     for field in fields {
         cells.push(cell_of(members, field.name.as_str())?)?;
     }
