@@ -1,5 +1,5 @@
 // The journal: bodies are queued, and then stand in one frame.
-ghost use Rattle.std.specs.Prelude.{◌≡◌, ◌≤◌, ◌<◌, ◌+◌, ◌-◌, ◌^◌, take, ◌++◌, ◌∷◌, [], ℕ, List, length, Some, None, IsSome, IsOk, IsErr, IfSome, OnOk, OnErr, vec_capacity};
+ghost use Rattle.std.specs.Prelude.{◌≡◌, ◌≤◌, ◌<◌, ◌+◌, ◌-◌, ◌^◌, take, ◌++◌, ◌∷◌, [], ℕ, List, length, Some, None, IsSome, IsOk, IsErr, IfSome, IfOk, OnOk, OnErr, vec_capacity};
 ghost use Rattle.std.specs.Option.{ForSome};
 ghost use Rattle.aq_disk.specs.Causes.{HasCause};
 ghost use Rattle.aq_disk.specs.Disk.{KeepsEarlier};
@@ -12,6 +12,7 @@ use crate::put::put_queued;
 use aq_disk::{Disk, Failed};
 use std::alloc::{AllocError, Global};
 use std::marker::Model;
+use std::mem;
 
 // The room for a frame without bodies, and for a body's length.
 pub(crate) const EMPTY_FRAME: usize = 19;
@@ -35,6 +36,8 @@ pub struct Journal<D: Disk> {
     count: u64,
     failed_at: Option<u64>,
     queued: Vec<Vec<u8>>,
+    // The bodies of the last frame, whose memory is used again.
+    written: Vec<Vec<u8>>,
     room: Vec<u8>,
     needed: usize,
 }
@@ -59,10 +62,31 @@ impl<D: Disk> Model for Journal<D> {
         (bodies_as j.queued.items) j.needed (vec_capacity j.room) };
 }
 
+// A copy of a body, in the memory of one that was written, where there is one.
+fn copy_of(alloc: Global, written: &mut Vec<Vec<u8>>, body: &[u8]) -> Result<Vec<u8>, AllocError>
+    ensures { IfOk result (λ copy. copy.items ≡ body.now) }
+{
+    let Some(mut copy) = written.pop() else {
+        return body.to_vec(alloc);
+    };
+    copy.clear();
+    copy.extend_from_slice(body)?;
+    Ok(copy)
+}
+
+// Ends the queue: all bodies in it were written.
+fn retire(queued: &mut Vec<Vec<u8>>, written: &mut Vec<Vec<u8>>)
+    ensures { queued.new.items ≡ [] }
+{
+    written.clear();
+    mem::swap(queued, written);
+}
+
 // Puts a body last, and takes the room for its frame.
 fn queue_body(
     alloc: Global,
     queued: &mut Vec<Vec<u8>>,
+    written: &mut Vec<Vec<u8>>,
     room: &mut Vec<u8>,
     needed: usize,
     body: &[u8],
@@ -72,7 +96,7 @@ fn queue_body(
     ensures room { OnOk result (needed ≤ vec_capacity room.new) }
     ensures capacity { vec_capacity room.old ≤ vec_capacity room.new }
 {
-    let copy = body.to_vec(alloc)?;
+    let copy = copy_of(alloc, written, body)?;
     room.clear();
     room.reserve(needed)?;
     queued.push(copy)?;
@@ -110,6 +134,7 @@ impl<D: Disk> Journal<D> {
             count,
             failed_at: None,
             queued: Vec::new(alloc),
+            written: Vec::new(alloc),
             room,
             needed: EMPTY_FRAME,
         }
@@ -171,7 +196,14 @@ impl<D: Disk> Journal<D> {
             return Err(AllocError);
         }
         let needed = self.needed + LENGTH + body.len();
-        queue_body(self.alloc, &mut self.queued, &mut self.room, needed, body)?;
+        queue_body(
+            self.alloc,
+            &mut self.queued,
+            &mut self.written,
+            &mut self.room,
+            needed,
+            body,
+        )?;
         self.needed = needed;
         Ok(())
     }
@@ -242,7 +274,7 @@ impl<D: Disk> Journal<D> {
             Ok(()) => {
                 self.active.gate += self.room.len() as u64;
                 self.count += 1;
-                self.queued.clear();
+                retire(&mut self.queued, &mut self.written);
                 self.needed = EMPTY_FRAME;
                 Ok(())
             }

@@ -31,7 +31,7 @@ invariant_of-self g c =
     record {
       area = record { header = c.self.invariant.area.header; version = omega (arith, c.self.invariant.area.version); limit = omega (arith, long, c.in-Ok.ensures.limit) };
       few = omega (arith, least, c.self.invariant.few);
-      needs = sym (ap (λ l. room_for (bodies_as l)) c.clear.ensures.items);
+      needs = sym (ap (λ l. room_for (bodies_as l)) c.retire.ensures);
       room = omega (arith, room_least (bodies_as c.self.inside.queued.items), c.self.invariant.needs, c.self.invariant.room, c.put_queued.ensures.capacity);
       place = λ fine bytes told. omega (arith, long, c.in-Ok.ensures.place bytes told);
     }
