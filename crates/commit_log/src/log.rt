@@ -14,14 +14,16 @@ use aq_disk::Disk;
 use database_recovery::{append_recovers, bodies_join, commit_leads_on};
 use queue_rows::Commit;
 use redo_journal::{Journal, JournalFault};
-use redo_records::encode;
-use std::alloc::AllocError;
+use redo_records::encode_into;
+use std::alloc::{AllocError, Global};
 use std::marker::Model;
 
 /// The journal of a database's commits, in the version that is written. Contracts see what they see of the journal.
 #[derive(Drop)]
 pub struct CommitLog<D: Disk> {
     journal: Journal<D>,
+    // The bytes of the commit that was queued last; its memory is used again for the next one.
+    spelled: Vec<u8>,
 }
 
 impl<D: Disk> Model for CommitLog<D> {
@@ -34,10 +36,13 @@ impl<D: Disk> Model for CommitLog<D> {
 
 impl<D: Disk> CommitLog<D> {
     // The log that a journal of the written version is.
-    pub(crate) fn of(journal: Journal<D>) -> CommitLog<D>
+    pub(crate) fn of(alloc: Global, journal: Journal<D>) -> CommitLog<D>
         ensures { result ≡ journal }
     {
-        CommitLog { journal }
+        CommitLog {
+            journal,
+            spelled: Vec::new(alloc),
+        }
     }
 
     /// The disk that the log stands on.
@@ -79,8 +84,8 @@ impl<D: Disk> CommitLog<D> {
         ensures err { OnErr result (self.new ≡ self.old) }
     {
         commit_leads_on();
-        let body = encode(commit)?;
-        self.journal.prepare(&body)
+        encode_into(&mut self.spelled, commit)?;
+        self.journal.prepare(&self.spelled)
     }
 
     /// Takes the commit that was queued last back. It takes no memory.

@@ -43,10 +43,10 @@ impl<D: Disk> CommitLog<D> {
             Err(fault) => return Err(fault),
         };
         if journal.version() == WRITTEN_VERSION {
-            return Ok((CommitLog::of(journal), store));
+            return Ok((CommitLog::of(alloc, journal), store));
         }
         match written_anew(alloc, journal, store.tables()) {
-            Ok(journal) => Ok((CommitLog::of(journal), store)),
+            Ok(journal) => Ok((CommitLog::of(alloc, journal), store)),
             Err(fault) => Err(fault),
         }
     }

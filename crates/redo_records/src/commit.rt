@@ -14,18 +14,28 @@ use payload_records::List;
 use queue_rows::{Change, Commit};
 use std::alloc::{AllocError, Global};
 
+/// Writes the one spelling of a commit in place of what stood in a vector, whose memory is used again: what `encode` gives.
+#[tactic(auto, unfolding(crate::specs::Spelling::spelling))]
+pub fn encode_into(out: &mut Vec<u8>, commit: &Commit) -> Result<(), AllocError>
+    ensures bytes { OnOk result (out.new.items ≡ encode commit.now) }
+    ensures spelled { OnOk result (CanBeSpelled commit.now → HasSpelling 2 commit.now) }
+{
+    out.clear();
+    put_num(out, commit.moment)?;
+    for change in &commit.changes {
+        put_change(out, change)?;
+    }
+    Ok(())
+}
+
 /// The one spelling of a commit, in version 2, which is read again as it where the commit can be spelled: what its types leave open
 /// of that `CanBeSpelled` says. It fails for want of memory, and for a name that is too long to be one.
-#[tactic(auto, unfolding(crate::specs::Spelling::spelling))]
 pub fn encode(commit: &Commit) -> Result<Vec<u8>, AllocError>
     ensures bytes { IfOk result (λ v. v.items ≡ encode commit.now) }
     ensures spelled { OnOk result (CanBeSpelled commit.now → HasSpelling 2 commit.now) }
 {
     let mut out = Vec::new(commit.changes.allocator());
-    put_num(&mut out, commit.moment)?;
-    for change in &commit.changes {
-        put_change(&mut out, change)?;
-    }
+    encode_into(&mut out, commit)?;
     Ok(out)
 }
 

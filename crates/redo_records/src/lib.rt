@@ -12,6 +12,6 @@ mod parts;
 mod rows;
 mod spelled;
 
-pub use commit::{decode, encode};
+pub use commit::{decode, encode, encode_into};
 pub use fault::DecodeFault;
 pub use laws::{one_spelling, spelling_is_read, written_is_read};

@@ -16,5 +16,5 @@ returns-clause-logs g c =
     subst (λ (j : Journaled g.row.D.Denot). OnOk c.prepare.result ((opening : Tables) (commits : List Commit) (k : ℕ) → Logs disk.seen disk.is_image disk.calls opening commits k j
     → Logs disk.seen disk.is_image disk.calls opening (commits ++ commit ∷ []) k new)) c.self.view_is
     (on_ok_weaker c.prepare.result
-    (λ made. prepared disk.seen disk.is_image disk.calls c.commit_leads_on.ensures commit c.deref.result.now c.self.inside.journal new (c.deref.ensures.value ∙ c.in_ok-body.ensures.bytes) c.in_ok-body.ensures.spelled made)
+    (λ made. prepared disk.seen disk.is_image disk.calls c.commit_leads_on.ensures commit c.deref.result.now c.self.inside.journal new (c.deref.ensures.value ∙ c.in_ok-encode_into.ensures.bytes) c.in_ok-encode_into.ensures.spelled made)
     c.prepare.ensures.ok)
