@@ -4,6 +4,7 @@ use Rattle.aq_base.specs.declared.DbId.{DbId}
 use Rattle.queue_rows.specs.Rows.{find_message, slot_of}
 use Rattle.queue_rows.specs.Tables.{after_change}
 use Rattle.queue_rows.specs.Session.{is_same_db}
+use Rattle.queue_rows.specs.World.{other_db}
 use Rattle.queue_rows.specs.Propagating.{Dispatch, dispatch, arriving, is_pair, has_seen}
 use Rattle.queue_rows.specs.Valid.{is_valid}
 use Rattle.queue_rows.specs.declared.tables.Tables.{Tables}
