@@ -8,6 +8,8 @@ mod clocks;
 #[cfg(test)]
 mod disks;
 #[cfg(test)]
+mod names;
+#[cfg(test)]
 mod places;
 #[cfg(test)]
 mod records;

@@ -3,6 +3,7 @@ ghost use Rattle.std.specs.Prelude.{◌≡◌, ◌++◌, map, OnOk};
 ghost use Rattle.queue_rows.specs.declared.change.Change.{Change};
 ghost use Rattle.queue_rows.specs.declared.change.Change.TheVariants.{PutTable, PutQueue, PutSub, PutSchedule, Enqueued, Seen};
 
+use named_list::{Named, NamedList};
 use payload_records::{Copied, List};
 use queue_rows::{Change, MsgRow, QueueRow, ScheduleRow, SeenRow, SubRow, TableRow};
 use row_tree::Tree;
@@ -60,6 +61,19 @@ impl Row for SeenRow {
 
 /// Puts at the end of changes what puts each of these rows, in order.
 pub(crate) fn put_rows<R: Row>(changes: &mut Vec<Change>, rows: &List<R>) -> Result<(), AllocError>
+    ensures { OnOk result (changes.new.items ≡ changes.old.items ++ map R.put rows.now) }
+{
+    for row in rows {
+        changes.push(row.copied()?.into_change())?;
+    }
+    Ok(())
+}
+
+/// Puts at the end of changes what puts each of these rows, which have names, in order.
+pub(crate) fn put_named_rows<R: Row + Named>(
+    changes: &mut Vec<Change>,
+    rows: &NamedList<R>,
+) -> Result<(), AllocError>
     ensures { OnOk result (changes.new.items ≡ changes.old.items ++ map R.put rows.now) }
 {
     for row in rows {

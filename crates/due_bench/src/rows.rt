@@ -65,8 +65,8 @@ fn queue(alloc: Global) -> Result<QueueRow, Fault> {
 /// Tables of one queue, without messages.
 pub fn tables(alloc: Global) -> Result<Tables, Fault> {
     let mut tables = Tables::new(alloc);
-    tables.tables.push(table(alloc)?)?;
-    tables.queues.push(queue(alloc)?)?;
+    tables.tables.append(alloc, table(alloc)?)?;
+    tables.queues.append(alloc, queue(alloc)?)?;
     Ok(tables)
 }
 

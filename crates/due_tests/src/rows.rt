@@ -124,11 +124,11 @@ fn add_message(tables: &mut Tables, alloc: Global, id: u32, rows: &[SlotOf]) -> 
 }
 
 fn add_queues(tables: &mut Tables, alloc: Global) -> Result<(), Fail> {
-    tables.tables.push(table(alloc)?)?;
+    tables.tables.append(alloc, table(alloc)?)?;
     let other = queue(alloc, "t_e", QueueKind::Exception, 0)?;
-    tables.queues.push(other)?;
+    tables.queues.append(alloc, other)?;
     let queue = queue(alloc, "q", QueueKind::Normal, 7)?;
-    tables.queues.push(queue)?;
+    tables.queues.append(alloc, queue)?;
     Ok(())
 }
 

@@ -6,18 +6,18 @@ ghost use Rattle.queue_rows.specs.declared.tables.Tables.{Tables};
 use payload_records::Name;
 use queue_rows::{MsgRow, QueueRow, TableRow, Tables};
 
-/// The queue table of that name.
+/// The queue table of that name. It takes no memory, and does not go over the tables.
 pub fn find_table<'a>(tables: &'a Tables, name: &Name) -> Option<&'a TableRow>
     ensures { option_copied result ≡ find_table tables.now name.now }
 {
-    tables.tables.iter().find(|row| row.name == *name)
+    tables.tables.find(name)
 }
 
-/// The queue of that name.
+/// The queue of that name. It takes no memory, and does not go over the queues.
 pub fn find_queue<'a>(tables: &'a Tables, name: &Name) -> Option<&'a QueueRow>
     ensures { option_copied result ≡ find_queue tables.now name.now }
 {
-    tables.queues.iter().find(|row| row.name == *name)
+    tables.queues.find(name)
 }
 
 /// Tables, and a way to find a message in them by its number.

@@ -11,8 +11,8 @@ use crate::enqueued::{enqueue, move_message};
 use crate::open::OpenTables;
 use crate::row_room::RowRoom;
 use crate::rows::{
-    has_queue, has_table, put, remove_exception_queue, remove_of_queue, remove_queue,
-    remove_schedule, remove_sub, remove_table,
+    has_queue, has_table, put, put_schedule, remove_exception_queue, remove_of_queue, remove_queue,
+    remove_schedule, remove_schedules_of, remove_sub, remove_table,
 };
 use payload_records::{List, Name};
 use queue_rows::{Change, Commit, SlotRow, SlotState};
@@ -23,12 +23,12 @@ fn drop_queue(opened: &mut OpenTables, name: &Name)
     ensures held { held opened.new ≡ without_queue (held opened.old) name.now }
     ensures room { room_of opened.new ≡ room_of opened.old }
 {
-    if !has_queue(opened.queues.as_slice(), name) {
+    if !has_queue(opened.queues.rows(), name) {
         return;
     }
     remove_queue(&mut opened.queues, name);
     remove_of_queue(&mut opened.subs, name);
-    remove_of_queue(&mut opened.schedules, name);
+    remove_schedules_of(&mut opened.schedules, name);
     opened.messages.remove_of_queue(name);
 }
 
@@ -36,7 +36,7 @@ fn drop_table(opened: &mut OpenTables, name: &Name)
     ensures held { held opened.new ≡ without_table (held opened.old) name.now }
     ensures room { room_of opened.new ≡ room_of opened.old }
 {
-    if !has_table(opened.tables.as_slice(), name) {
+    if !has_table(opened.tables.rows(), name) {
         return;
     }
     remove_exception_queue(&mut opened.queues, name);
@@ -86,7 +86,7 @@ fn apply_change(opened: &mut OpenTables, change: Change, alloc: Global)
         Change::DropQueue(name) => drop_queue(opened, &name),
         Change::PutSub(row) => put(&mut opened.subs, row),
         Change::DropSub { queue, name } => remove_sub(&mut opened.subs, &queue, &name),
-        Change::PutSchedule(row) => put(&mut opened.schedules, row),
+        Change::PutSchedule(row) => put_schedule(&mut opened.schedules, row),
         Change::DropSchedule { queue, to } => remove_schedule(&mut opened.schedules, &queue, &to),
         Change::Enqueued(row) => enqueue(opened, row),
         Change::Retried {

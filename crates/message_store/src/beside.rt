@@ -4,6 +4,7 @@ ghost use Rattle.message_store.specs.Beside.{room_beside};
 ghost use Rattle.message_store.specs.Room.{HasRoom};
 
 use crate::message_index::MessageIndex;
+use crate::open_named::NamedRoom;
 use crate::room::{RowKind, puts_of};
 use crate::row_room::RowRoom;
 use payload_records::List;
@@ -17,11 +18,11 @@ pub(crate) struct Beside {
     /// The index, with memory for more messages.
     pub(crate) index: MessageIndex,
     /// Memory for queue tables.
-    pub(crate) tables: RowRoom<TableRow>,
+    pub(crate) tables: NamedRoom<TableRow>,
     /// Memory for queues.
-    pub(crate) queues: RowRoom<QueueRow>,
+    pub(crate) queues: NamedRoom<QueueRow>,
     /// Memory for subscribers.
-    pub(crate) subs: RowRoom<SubRow>,
+    pub(crate) subs: NamedRoom<SubRow>,
     /// Memory for schedules.
     pub(crate) schedules: RowRoom<ScheduleRow>,
     /// Memory for what arrives from the other database.
@@ -37,9 +38,9 @@ impl Beside {
     {
         Beside {
             index,
-            tables: RowRoom::none(alloc),
-            queues: RowRoom::none(alloc),
-            subs: RowRoom::none(alloc),
+            tables: NamedRoom::none(alloc),
+            queues: NamedRoom::none(alloc),
+            subs: NamedRoom::none(alloc),
             schedules: RowRoom::none(alloc),
             seen: RowRoom::none(alloc),
             slots: VecDeque::new(alloc),
@@ -58,11 +59,11 @@ impl Beside {
         ensures room { OnOk result (HasRoom (room_beside tables.now self.new) changes.now) }
     {
         self.tables
-            .reserve(&tables.tables, puts_of(RowKind::Table, changes))?;
+            .reserve(tables.tables.len(), puts_of(RowKind::Table, changes))?;
         self.queues
-            .reserve(&tables.queues, puts_of(RowKind::Queue, changes))?;
+            .reserve(tables.queues.len(), puts_of(RowKind::Queue, changes))?;
         self.subs
-            .reserve(&tables.subs, puts_of(RowKind::Sub, changes))?;
+            .reserve(tables.subs.len(), puts_of(RowKind::Sub, changes))?;
         self.schedules
             .reserve(&tables.schedules, puts_of(RowKind::Schedule, changes))?;
         self.seen

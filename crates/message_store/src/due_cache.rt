@@ -11,6 +11,7 @@ use due_slots::{
     DueSlots, joined_tells, rows_are_few, rows_have_its_number, rows_name_due, without_tells,
 };
 use exception_queues::find_queue;
+use named_list::NamedList;
 use payload_records::{Copied, List, Name};
 use queue_rows::{Change, MsgRow, QueueRow, Tables};
 use row_tree::Tree;
@@ -50,7 +51,7 @@ fn keeps_in(keeps: &List<KeepRow>, queue: &Name) -> u64
 }
 
 // The queues that keep messages. No clause is needed: who takes rows by the list looks whether queues still keep them for so long.
-fn kept_by(queues: &List<QueueRow>, alloc: Global) -> Result<List<KeepRow>, AllocError> {
+fn kept_by(queues: &NamedList<QueueRow>, alloc: Global) -> Result<List<KeepRow>, AllocError> {
     let mut keeps = List::new(alloc);
     for queue in queues {
         if queue.retention > 0 {
@@ -125,7 +126,11 @@ impl DueCache {
     }
 
     /// The index of messages, where there is memory for it.
-    pub(crate) fn of(messages: &Tree<MsgRow>, queues: &List<QueueRow>, alloc: Global) -> DueCache
+    pub(crate) fn of(
+        messages: &Tree<MsgRow>,
+        queues: &NamedList<QueueRow>,
+        alloc: Global,
+    ) -> DueCache
         ensures { IfDue (keeps_in result.keeps) messages.now result.slots }
     {
         let Ok(keeps) = kept_by(queues, alloc) else {

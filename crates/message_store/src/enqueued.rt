@@ -7,14 +7,16 @@ ghost use Rattle.message_store.specs.Open.{held, room_of};
 ghost use Rattle.message_store.specs.Prepared.{HasFewerSlots};
 
 use crate::open::OpenTables;
-use crate::open_rows::OpenRows;
+use crate::open_named::OpenNamed;
 use crate::row_room::RowRoom;
 use crate::rows::{has_queue, queue_place, table_row};
+use named_list::NamedList;
 use payload_records::Name;
 use place_keys::Place;
 use queue_rows::{MsgRow, QueueRow, SlotRow, TableRow};
+use row_tree::Edit;
 
-fn is_grouped(tables: &[TableRow], queue: &QueueRow) -> bool
+fn is_grouped(tables: &NamedList<TableRow>, queue: &QueueRow) -> bool
     ensures { result ≡ is_grouped tables.now queue.now }
 {
     match table_row(tables, &queue.table) {
@@ -23,25 +25,39 @@ fn is_grouped(tables: &[TableRow], queue: &QueueRow) -> bool
     }
 }
 
-fn lower(tables: &[TableRow], place: &Place, queue: &mut QueueRow)
-    ensures { queue.new ≡ lowered_to tables.now place.now queue.old }
-{
-    queue.lower(is_grouped(tables, queue), place);
+// The lowest lane of the queue follows a message.
+#[derive(Drop)]
+struct Lower<'a> {
+    tables: &'a NamedList<TableRow>,
+    place: &'a Place,
+}
+
+impl<'a> Edit<QueueRow> for Lower<'a> {
+    ghost edited = { λ edit queue. lowered_to edit.tables.now edit.place.now queue };
+
+    fn edit(self, queue: QueueRow) -> QueueRow {
+        let mut queue = queue;
+        queue.lower(is_grouped(self.tables, &queue), self.place);
+        queue
+    }
 }
 
 fn lower_of(
-    tables: &OpenRows<TableRow>,
-    queues: &mut OpenRows<QueueRow>,
+    tables: &OpenNamed<TableRow>,
+    queues: &mut OpenNamed<QueueRow>,
     name: &Name,
     place: &Place,
 )
     ensures { queues.new ≡ with_lowered tables.now.items place.now name.now queues.old }
 {
-    let Some(index) = queue_place(queues.as_slice(), name) else {
-        return;
-    };
-    if let Some(queue) = queues.get_mut(index) {
-        lower(tables.as_slice(), place, queue);
+    if let Some(at) = queue_place(queues.rows(), name) {
+        queues.edit(
+            at,
+            Lower {
+                tables: tables.rows(),
+                place,
+            },
+        );
     }
 }
 
@@ -77,7 +93,7 @@ pub(crate) fn move_message(
     let Some(message) = opened.messages.find(id) else {
         return;
     };
-    if !has_queue(opened.queues.as_slice(), &queue) {
+    if !has_queue(opened.queues.rows(), &queue) {
         return;
     }
     lower_of(&opened.tables, &mut opened.queues, &queue, &message.place);

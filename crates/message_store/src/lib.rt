@@ -16,6 +16,7 @@ mod message_index;
 mod numbers;
 mod open;
 mod open_messages;
+mod open_named;
 mod open_rows;
 mod prepared_store;
 mod ready_cache;

@@ -9,6 +9,7 @@ ghost use Rattle.message_store.specs.Stamped.{AreStamps};
 use crate::beside::Beside;
 use crate::caches::Caches;
 use crate::open_messages::OpenMessages;
+use crate::open_named::OpenNamed;
 use crate::open_rows::OpenRows;
 use crate::row_room::RowRoom;
 use queue_rows::{QueueRow, ScheduleRow, SeenRow, SlotRow, SubRow, TableRow, Tables};
@@ -19,11 +20,11 @@ use std::collections::VecDeque;
 #[derive(Drop)]
 pub(crate) struct OpenTables {
     /// The queue tables.
-    pub(crate) tables: OpenRows<TableRow>,
+    pub(crate) tables: OpenNamed<TableRow>,
     /// The queues.
-    pub(crate) queues: OpenRows<QueueRow>,
+    pub(crate) queues: OpenNamed<QueueRow>,
     /// The subscribers of all queues.
-    pub(crate) subs: OpenRows<SubRow>,
+    pub(crate) subs: OpenNamed<SubRow>,
     /// The schedules.
     pub(crate) schedules: OpenRows<ScheduleRow>,
     /// The messages, with their index.
@@ -50,9 +51,9 @@ impl OpenTables {
         ensures room { room_of result ≡ room_beside tables beside }
     {
         OpenTables {
-            tables: beside.tables.open(tables.tables),
-            queues: beside.queues.open(tables.queues),
-            subs: beside.subs.open(tables.subs),
+            tables: OpenNamed::of(tables.tables, beside.tables),
+            queues: OpenNamed::of(tables.queues, beside.queues),
+            subs: OpenNamed::of(tables.subs, beside.subs),
             schedules: beside.schedules.open(tables.schedules),
             messages: OpenMessages::of(tables.messages, beside.index, caches),
             seen: beside.seen.open(tables.seen),

@@ -1,10 +1,7 @@
 // Rows of one kind, while a commit is made.
-ghost use Rattle.std.specs.Prelude.{◌≡◌, ◌+◌, ◌-◌, ◌<◌, ◌≤◌, [], ◌∷◌, ◌++◌, OnOk, OnErr, length, option_copied, remove, slice_get, slice_set};
+ghost use Rattle.std.specs.Prelude.{◌≡◌, ◌+◌, ◌-◌, ◌<◌, ◌≤◌, [], ◌∷◌, ◌++◌, OnOk, OnErr, length, remove, slice_set};
 ghost use Rattle.std.specs.Fn.{CalledAt};
 ghost use Rattle.std.specs.List.Retain.{IsFiltered};
-ghost use Rattle.std.specs.Borrow.{LendsIf, sem};
-ghost use Rattle.std.specs.Option.{option_copied_mut};
-ghost use Rattle.message_store.specs.contracts.open_rows.OpenRows.{the_row};
 
 use payload_records::List;
 use std::alloc::{AllocError, Global};
@@ -63,13 +60,6 @@ impl<T> OpenRows<T> {
         self.items.as_slice()
     }
 
-    /// The row at an index, or None past the end.
-    pub(crate) fn get(&self, at: usize) -> Option<&T>
-        ensures { option_copied result ≡ slice_get self.now.items at }
-    {
-        self.items.get(at)
-    }
-
     /// For how many more rows there is memory.
     pub(crate) fn room(&self) -> usize
         ensures { result ≡ self.now.room }
@@ -123,15 +113,6 @@ impl<T> OpenRows<T> {
     {
         self.items[at] = row;
         self.room = self.room.saturating_sub(1);
-    }
-
-    /// Lends the row at an index to be written, or None past the end. It takes no memory.
-    pub(crate) fn get_mut(&mut self, at: usize) -> Option<&mut T>
-        ensures* writes_back { sem 𝓛 (LendsIf (the_row T.row) T.row self.entry result
-            (λ row. record self.old { items = slice_set self.old.items at row }) self.old) }
-        ensures value { option_copied_mut result ≡ slice_get self.old.items at }
-    {
-        self.items.get_mut(at)
     }
 
     /// Keeps the rows that pass a test. It takes no memory.

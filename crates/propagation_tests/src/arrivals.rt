@@ -15,9 +15,9 @@ const SEVEN: MessageOf = (7, "mq", 9, &[("inq", SlotState::Ready, 1)]);
 
 fn add_origin(tables: &mut Tables, alloc: Global, plan: Plan) -> Result<(), Fail> {
     let table = rows::table(alloc, "m", QTY, (true, false))?;
-    tables.tables.push(table)?;
+    tables.tables.append(alloc, table)?;
     let queue = rows::queue(alloc, "mq", "m", (QueueKind::Normal, true, 0))?;
-    tables.queues.push(queue)?;
+    tables.queues.append(alloc, queue)?;
     let schedule = rows::schedule(alloc, "inq", plan)?;
     tables.schedules.push(schedule)?;
     let message = rows::message(alloc, &SEVEN)?;
@@ -55,9 +55,9 @@ fn seen(slot: u64) -> SeenRow {
 
 fn add_there(tables: &mut Tables, alloc: Global, there: There) -> Result<(), Fail> {
     let table = rows::table(alloc, "t", there.fields, there.kind)?;
-    tables.tables.push(table)?;
+    tables.tables.append(alloc, table)?;
     let queue = rows::queue(alloc, there.name, "t", there.queue)?;
-    tables.queues.push(queue)?;
+    tables.queues.append(alloc, queue)?;
     tables.seen.push(seen(there.seen))?;
     tables.transaction = 2;
     Ok(())

@@ -59,9 +59,9 @@ const CASES: [Case; 6] = [
 
 fn add_rows(tables: &mut Tables, alloc: Global, row: &Case) -> Result<(), Fail> {
     let table = rows::table(alloc, "m", QTY, (true, false))?;
-    tables.tables.push(table)?;
+    tables.tables.append(alloc, table)?;
     let queue = rows::queue(alloc, "mq", "m", (QueueKind::Normal, true, row.1))?;
-    tables.queues.push(queue)?;
+    tables.queues.append(alloc, queue)?;
     let schedule = rows::schedule(alloc, "inq", row.2)?;
     tables.schedules.push(schedule)?;
     let message = rows::message(alloc, &(7, "mq", 9, row.0))?;

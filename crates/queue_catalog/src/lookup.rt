@@ -1,12 +1,12 @@
 // Looking subscribers and schedules up, and what a queue is for.
 ghost use Rattle.std.specs.Prelude.{◌≡◌, IfOk, option_copied};
-ghost use Rattle.queue_rows.specs.Rows.{find_table, find_sub, find_schedule, is_sub, is_schedule, exception_name};
+ghost use Rattle.queue_rows.specs.Rows.{find_table, find_sub, find_schedule, is_schedule, exception_name};
 ghost use Rattle.queue_rows.specs.Recipients.{has_consumers};
 ghost use Rattle.queue_rows.specs.Catalog.{has_subscribers};
 
 use exception_queues::find_table;
 use payload_records::Name;
-use queue_rows::{QueueRow, ScheduleRow, SubRow, TableRow, Tables};
+use queue_rows::{QueueRow, ScheduleRow, SubKey, SubRow, TableRow, Tables};
 use std::alloc::AllocError;
 
 /// The name of the default exception queue of a table. Err is want of memory alone.
@@ -16,17 +16,11 @@ pub fn exception_name(table: &Name) -> Result<Name, AllocError>
     table.with_suffix("_e")
 }
 
-fn is_sub(queue: &Name, name: &Name, sub: &SubRow) -> bool
-    ensures { result ≡ is_sub queue.now name.now sub.now }
-{
-    sub.queue == *queue && sub.name == *name
-}
-
 /// The subscriber of that queue and name. It takes no memory.
 pub fn find_sub<'a>(tables: &'a Tables, queue: &Name, name: &Name) -> Option<&'a SubRow>
     ensures { option_copied result ≡ find_sub tables.now queue.now name.now }
 {
-    tables.subs.iter().find(|sub| is_sub(queue, name, *sub))
+    tables.subs.find(&SubKey { queue, name })
 }
 
 fn is_schedule(queue: &Name, to: &Name, schedule: &ScheduleRow) -> bool

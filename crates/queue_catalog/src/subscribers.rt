@@ -20,7 +20,7 @@ use std::alloc::{AllocError, Global};
 fn subscriber_count(tables: &Tables, queue: &Name) -> usize
     ensures { result ≡ length (subscribers_of tables.now queue.now) }
 {
-    tables.subs.iter().filter(|sub| sub.queue == *queue).count()
+    tables.subs.count_of(queue)
 }
 
 // The last test of a new subscriber is of its rule.

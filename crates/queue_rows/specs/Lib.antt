@@ -19,6 +19,7 @@ pub mod Sending
 pub mod Serial
 pub mod Session
 pub mod Settling
+pub mod Sought
 pub mod Statements
 pub mod Tables
 pub mod Transactions

@@ -18,7 +18,7 @@ pub use history::{Arrival, Cause, Entry, History, SessionScript, SlotRef, Step};
 pub use lanes::lane_of;
 pub use reply::{ConditionFault, LimitName, Reply, Shown};
 pub use rows::{
-    MsgRow, QueueKind, QueueRow, ScheduleRow, SeenRow, SlotRow, SlotState, SubRow, TableRow,
+    MsgRow, QueueKind, QueueRow, ScheduleRow, SeenRow, SlotRow, SlotState, SubKey, SubRow, TableRow,
 };
 pub use session::{Agent, Pending, Position};
 pub use statement::{

@@ -1,4 +1,9 @@
 // The rows of a database's tables.
+ghost use Rattle.std.specs.Prelude.{◌≡◌};
+ghost use Rattle.queue_rows.specs.Rows.{is_sub};
+ghost use Rattle.queue_rows.specs.Sought.{is_of_queue};
+
+use named_list::{Named, Sought};
 use payload_records::{Copied, List, Name, RecordType};
 use place_keys::{Place, SortList};
 use rule_conditions::{Cond, Facts};
@@ -62,6 +67,15 @@ pub struct SubRow {
     pub address: Option<Name>,
     /// The rule by which messages are chosen for it; without one it gets all.
     pub rule: Option<Cond>,
+}
+
+/// What a subscriber is found by.
+#[derive(Clone, Copy)]
+pub struct SubKey<'a> {
+    /// Its queue.
+    pub queue: &'a Name,
+    /// Its name.
+    pub name: &'a Name,
 }
 
 /// A schedule of the propagation from a queue to a queue of the other database.
@@ -151,6 +165,47 @@ pub struct SeenRow {
     pub slot: u64,
     /// The number of its copy here.
     pub copy: u64,
+}
+
+impl Named for TableRow {
+    ghost name_of = { λ row. row.name };
+
+    fn name(&self) -> &Name {
+        &self.name
+    }
+}
+
+impl Named for QueueRow {
+    ghost name_of = { λ row. row.name };
+
+    fn name(&self) -> &Name {
+        &self.name
+    }
+}
+
+/// Subscribers are found by their queue.
+impl Named for SubRow {
+    ghost name_of = { λ row. row.queue };
+
+    fn name(&self) -> &Name {
+        &self.queue
+    }
+}
+
+impl<'a> Sought<SubRow> for SubKey<'a> {
+    ghost wanted = { λ key. key.queue.now };
+
+    ghost is = { λ key sub. is_sub key.queue.now key.name.now sub };
+
+    ghost has_name = { λ key sub. is_of_queue key.queue.now key.name.now sub };
+
+    fn name(&self) -> &Name {
+        self.queue
+    }
+
+    fn is(&self, sub: &SubRow) -> bool {
+        sub.queue == *self.queue && sub.name == *self.name
+    }
 }
 
 impl Copied for TableRow {

@@ -3,6 +3,7 @@ ghost use Rattle.std.specs.Prelude.{◌≡◌};
 ghost use Rattle.queue_rows.specs.Tables.{empty_tables};
 
 use crate::{MsgRow, QueueRow, ScheduleRow, SeenRow, SubRow, TableRow};
+use named_list::NamedList;
 use payload_records::List;
 use row_tree::Tree;
 use std::alloc::Global;
@@ -10,12 +11,12 @@ use std::alloc::Global;
 /// What a database holds.
 #[derive(Drop)]
 pub struct Tables {
-    /// The queue tables.
-    pub tables: List<TableRow>,
-    /// The queues.
-    pub queues: List<QueueRow>,
-    /// The subscribers of all queues, in the order in which they were added.
-    pub subs: List<SubRow>,
+    /// The queue tables, found by their names.
+    pub tables: NamedList<TableRow>,
+    /// The queues, found by their names.
+    pub queues: NamedList<QueueRow>,
+    /// The subscribers of all queues, in the order in which they were added, found by their queues.
+    pub subs: NamedList<SubRow>,
     /// The schedules.
     pub schedules: List<ScheduleRow>,
     /// The messages, in the order of their commits.
@@ -36,9 +37,9 @@ impl Tables {
         ensures { result ≡ empty_tables }
     {
         Tables {
-            tables: List::new(alloc),
-            queues: List::new(alloc),
-            subs: List::new(alloc),
+            tables: NamedList::new(),
+            queues: NamedList::new(),
+            subs: NamedList::new(),
             schedules: List::new(alloc),
             messages: Tree::new(),
             seen: List::new(alloc),

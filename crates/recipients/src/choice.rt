@@ -36,8 +36,8 @@ fn wanting(
         (λ agents. agents ≡ map subscribed (wanting tables.now queue.now kind.now facts.now)) }
 {
     let mut agents = SmallList::new(alloc);
-    for sub in &tables.subs {
-        if sub.queue == *queue && is_met(sub.rule.as_ref(), facts, kind) {
+    for sub in tables.subs.of(queue) {
+        if is_met(sub.rule.as_ref(), facts, kind) {
             agents.push(subscribed(sub)?)?;
         }
     }

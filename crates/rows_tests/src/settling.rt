@@ -1,6 +1,7 @@
 // What lists of changes settle of the messages that they name.
 use crate::fixtures;
 use exception_queues::{exception_queue_of, settle};
+use named_list::NamedList;
 use payload_records::{List, Name};
 use place_keys::Place;
 use queue_rows::{Change, MsgRow, QueueKind, QueueRow, SlotRow, SlotState, Tables};
@@ -62,9 +63,9 @@ fn queue(alloc: Global, row: &Kept) -> Result<QueueRow, Fail> {
     Ok(queue_of(name, table, row.2, row.3))
 }
 
-fn add_queues(queues: &mut List<QueueRow>, alloc: Global, rows: &[Kept]) -> Result<(), Fail> {
+fn add_queues(queues: &mut NamedList<QueueRow>, alloc: Global, rows: &[Kept]) -> Result<(), Fail> {
     for row in rows {
-        queues.push(queue(alloc, row)?)?;
+        queues.append(alloc, queue(alloc, row)?)?;
     }
     Ok(())
 }

@@ -4,6 +4,7 @@ ghost use Rattle.message_store.specs.Numbers.{HasNumbers};
 
 use crate::fixtures;
 use message_store::Store;
+use named_list::NamedList;
 use payload_records::{List, Name};
 use queue_rows::{Change, MsgRow, QueueKind, QueueRow, Tables};
 use row_tree::Tree;
@@ -120,7 +121,7 @@ fn put_messages(out: &mut String, messages: &Tree<MsgRow>) -> Result<(), AllocEr
     Ok(())
 }
 
-fn put_queues(out: &mut String, queues: &List<QueueRow>) -> Result<(), AllocError> {
+fn put_queues(out: &mut String, queues: &NamedList<QueueRow>) -> Result<(), AllocError> {
     for queue in queues {
         let name = queue.name.as_str();
         let lowest = queue.lowest;

@@ -4,6 +4,7 @@ ghost use Rattle.sessions.specs.Numbers.{IsLowest, IsAddable, IsPendable, IsCoun
 
 use crate::fixtures;
 use aq_base::DbId;
+use named_list::NamedList;
 use payload_records::{List, Name};
 use place_keys::{Place, SortList};
 use queue_rows::{MsgRow, Pending, QueueKind, QueueRow, SlotRow, SlotState, TableRow, Tables};
@@ -16,10 +17,10 @@ use std::test::Fail;
 
 // ---- the tables, whose next group is 6: of message 3 a removal was rolled back once, which is the most
 
-fn add_table(tables: &mut List<TableRow>, alloc: Global) -> Result<(), Fail> {
+fn add_table(tables: &mut NamedList<TableRow>, alloc: Global) -> Result<(), Fail> {
     let columns = SortList::by_enqueue_time(alloc)?;
     let table = fixtures::table(alloc, columns)?;
-    tables.push(table)?;
+    tables.append(alloc, table)?;
     Ok(())
 }
 
@@ -52,9 +53,9 @@ fn queue(alloc: Global, row: &Delayed) -> Result<QueueRow, Fail> {
     Ok(queue_of(name, table, row.1, row.2))
 }
 
-fn add_queues(queues: &mut List<QueueRow>, alloc: Global, rows: &[Delayed]) -> Result<(), Fail> {
+fn add_queues(queues: &mut NamedList<QueueRow>, alloc: Global, rows: &[Delayed]) -> Result<(), Fail> {
     for row in rows {
-        queues.push(queue(alloc, row)?)?;
+        queues.append(alloc, queue(alloc, row)?)?;
     }
     Ok(())
 }
@@ -167,7 +168,7 @@ fn session(alloc: Global, did: &[Did]) -> Result<SessionState, Fail> {
 
 // ---- numbers that are small enough
 
-fn are_low(queues: &List<QueueRow>) -> bool
+fn are_low(queues: &NamedList<QueueRow>) -> bool
     ensures { IsTrue result → All (IsLowest (2 ^ 62)) queues.now }
 {
     queues.iter().all(|queue| queue.lowest >= 0)
@@ -194,7 +195,7 @@ fn are_pendable(pending: &List<Pending>) -> bool
     pending.iter().all(|p| is_pendable(p))
 }
 
-fn are_delaying(queues: &List<QueueRow>) -> bool
+fn are_delaying(queues: &NamedList<QueueRow>) -> bool
     ensures { IsTrue result → All IsDelaying queues.now }
 {
     queues.iter().all(|queue| queue.retry_delay < 1000)

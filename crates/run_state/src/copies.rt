@@ -21,9 +21,9 @@ pub fn copied_tables(alloc: Global, tables: &Tables) -> Result<Tables, AllocErro
     ensures { IfOk result (λ copy. copy ≡ tables.now) }
 {
     Ok(Tables {
-        tables: tables.tables.copied()?,
-        queues: tables.queues.copied()?,
-        subs: tables.subs.copied()?,
+        tables: tables.tables.copied(alloc)?,
+        queues: tables.queues.copied(alloc)?,
+        subs: tables.subs.copied(alloc)?,
         schedules: tables.schedules.copied()?,
         messages: copied_messages(alloc, &tables.messages)?,
         seen: tables.seen.copied()?,

@@ -10,6 +10,7 @@ use crate::SessionState;
 use crate::completed::{Stamp, change_of};
 use crate::running::lower_by;
 use exception_queues::{MessageTables, settle};
+use named_list::NamedList;
 use payload_records::{Copied, List};
 use queue_rows::{Change, Pending, QueueRow, Tables};
 use std::alloc::{AllocError, Global};
@@ -29,6 +30,16 @@ fn any_addition(pending: &List<Pending>) -> bool
     pending.iter().any(|p| is_addition(p))
 }
 
+fn copies_of(alloc: Global, queues: &NamedList<QueueRow>) -> Result<List<QueueRow>, AllocError>
+    ensures { IfOk result (λ copies. copies ≡ queues.now) }
+{
+    let mut copies = List::from_vec(Vec::with_capacity(alloc, queues.len())?);
+    for queue in queues {
+        copies.push(queue.copied()?)?;
+    }
+    Ok(copies)
+}
+
 // The queues that the walk over the pending changes begins with: removals look at none, so they copy none.
 #[tactic(auto, using(crate::proofs::Course::removals_alone))]
 fn queues_for(tables: &Tables, pending: &List<Pending>) -> Result<List<QueueRow>, AllocError>
@@ -37,7 +48,7 @@ fn queues_for(tables: &Tables, pending: &List<Pending>) -> Result<List<QueueRow>
     ensures lowest { IfOk result (λ queues. All (IsLowest (2 ^ 62)) queues) }
 {
     if any_addition(pending) {
-        tables.queues.copied()
+        copies_of(pending.allocator(), &tables.queues)
     } else {
         Ok(List::new(pending.allocator()))
     }

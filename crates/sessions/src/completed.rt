@@ -1,5 +1,6 @@
 // Additions as their commit puts them in.
-ghost use Rattle.std.specs.Prelude.{◌≡◌, ◌<◌, ◌≤◌, ◌^◌, ◌-◌, map, All, IfOk, IfSome, find, option_copied};
+ghost use Rattle.std.specs.Prelude.{◌≡◌, ◌<◌, ◌≤◌, ◌^◌, ◌-◌, List as Sequence, map, All, IfOk, IfSome, find, option_copied};
+ghost use Rattle.queue_rows.specs.declared.rows.QueueRow.{QueueRow};
 ghost use Rattle.std.specs.Str.{bytes_eq};
 ghost use Rattle.queue_rows.specs.Commits.{slot_at_commit};
 ghost use Rattle.sessions.specs.Numbers.{IsAbove, IsLowest, IsAddable, IsPendable};
@@ -7,6 +8,7 @@ ghost use Rattle.sessions.specs.Stamped.{completed_in_table, completed_for, comp
 
 use crate::places::place_at_commit;
 use exception_queues::find_table;
+use named_list::NamedList;
 use payload_records::{Copied, List, Name};
 use queue_rows::{Change, MsgRow, Pending, QueueRow, SlotRow, SlotState, TableRow, Tables};
 use std::alloc::{AllocError, Global};
@@ -89,43 +91,62 @@ fn completed_by(
     }
 }
 
-fn queue_among<'a>(queues: &'a List<QueueRow>, name: &Name) -> Option<&'a QueueRow>
-    ensures { option_copied result ≡ find (λ r. bytes_eq r.name name.now) queues.now }
-{
-    queues.iter().find(|r| r.name == *name)
+/// Queues among which one is found by its name.
+pub trait Queues {
+    ghost rows: { Self → Sequence QueueRow };
+
+    /// The queue of that name. It takes no memory.
+    fn queue(&self, name: &Name) -> Option<&QueueRow>
+        ensures { option_copied result ≡ find (λ r. bytes_eq r.name name.now) (rows self.now) };
+}
+
+impl Queues for NamedList<QueueRow> {
+    ghost rows = { λ queues. queues };
+
+    fn queue(&self, name: &Name) -> Option<&QueueRow> {
+        self.find(name)
+    }
+}
+
+impl Queues for List<QueueRow> {
+    ghost rows = { λ queues. queues };
+
+    fn queue(&self, name: &Name) -> Option<&QueueRow> {
+        self.iter().find(|r| r.name == *name)
+    }
 }
 
 #[tactic(auto, using(crate::proofs::Each::found_each))]
-fn completed(
+fn completed<Q: Queues>(
     alloc: Global,
     tables: &Tables,
-    queues: &List<QueueRow>,
+    queues: &Q,
     stamp: Stamp,
     message: &MsgRow,
 ) -> Result<MsgRow, AllocError>
     requires group { stamp.group < 2 ^ 62 }
     requires moment { stamp.moment ≤ 2 ^ 62 }
-    requires lowest { All (IsLowest (2 ^ 63 - 1)) queues.now }
+    requires lowest { All (IsLowest (2 ^ 63 - 1)) (Q.rows queues.now) }
     requires numbers { IsAddable message.now }
-    ensures { IfOk result (λ m. m ≡ completed_among tables.now queues.now stamp message.now) }
+    ensures { IfOk result (λ m. m ≡ completed_among tables.now (Q.rows queues.now) stamp message.now) }
 {
-    let queue = queue_among(queues, &message.queue);
+    let queue = queues.queue(&message.queue);
     completed_by(alloc, tables, queue, stamp, message)
 }
 
 /// What a pending addition or removal becomes in the tables with these queues.
-pub fn change_of(
+pub fn change_of<Q: Queues>(
     alloc: Global,
     tables: &Tables,
-    queues: &List<QueueRow>,
+    queues: &Q,
     stamp: Stamp,
     pending: &Pending,
 ) -> Result<Change, AllocError>
     requires group { stamp.group < 2 ^ 62 }
     requires moment { stamp.moment ≤ 2 ^ 62 }
-    requires lowest { All (IsLowest (2 ^ 63 - 1)) queues.now }
+    requires lowest { All (IsLowest (2 ^ 63 - 1)) (Q.rows queues.now) }
     requires numbers { IsPendable pending.now }
-    ensures { IfOk result (λ change. change ≡ change_among tables.now queues.now stamp pending.now) }
+    ensures { IfOk result (λ change. change ≡ change_among tables.now (Q.rows queues.now) stamp pending.now) }
 {
     match pending {
         Pending::Add(message) => Ok(Change::Enqueued(completed(

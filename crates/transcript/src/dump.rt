@@ -9,11 +9,12 @@ ghost use Rattle.transcript.specs.Text.{Writes};
 use crate::messages::put_message;
 use crate::rows::{put_database, put_queue, put_schedule, put_seen, put_subscriber, put_table};
 use aq_base::DbId;
+use named_list::NamedList;
 use payload_records::List;
 use queue_rows::{QueueRow, ScheduleRow, SeenRow, SubRow, TableRow, Tables};
 use std::alloc::{AllocError, Global};
 
-fn put_tables(out: &mut String, rows: &List<TableRow>) -> Result<(), AllocError>
+fn put_tables(out: &mut String, rows: &NamedList<TableRow>) -> Result<(), AllocError>
     ensures { OnOk result (Writes out.old out.new (flat_map table_line rows.now)) }
 {
     for row in rows {
@@ -22,7 +23,7 @@ fn put_tables(out: &mut String, rows: &List<TableRow>) -> Result<(), AllocError>
     Ok(())
 }
 
-fn put_queues(out: &mut String, rows: &List<QueueRow>) -> Result<(), AllocError>
+fn put_queues(out: &mut String, rows: &NamedList<QueueRow>) -> Result<(), AllocError>
     ensures { OnOk result (Writes out.old out.new (flat_map queue_line rows.now)) }
 {
     for row in rows {
@@ -31,7 +32,7 @@ fn put_queues(out: &mut String, rows: &List<QueueRow>) -> Result<(), AllocError>
     Ok(())
 }
 
-fn put_subscribers(out: &mut String, rows: &List<SubRow>) -> Result<(), AllocError>
+fn put_subscribers(out: &mut String, rows: &NamedList<SubRow>) -> Result<(), AllocError>
     ensures { OnOk result (Writes out.old out.new (flat_map sub_line rows.now)) }
 {
     for row in rows {

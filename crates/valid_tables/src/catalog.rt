@@ -5,7 +5,8 @@ ghost use Rattle.std.specs.Str.{bytes_eq};
 ghost use Rattle.valid_tables.specs.Catalog.{at_name};
 
 use crate::named::NamedRows;
-use payload_records::{Copied, List, Name};
+use named_list::NamedList;
+use payload_records::{Copied, Name};
 use queue_rows::{QueueRow, SubRow, TableRow, Tables};
 use std::alloc::{AllocError, Global};
 use std::collections::BTreeMap;
@@ -40,7 +41,7 @@ impl<'a> Model for Catalog<'a> {
 // The first row of each name stays.
 fn rows_of_tables<'a>(
     alloc: Global,
-    tables: &'a List<TableRow>,
+    tables: &'a NamedList<TableRow>,
 ) -> Result<BTreeMap<Name, &'a TableRow>, AllocError>
     ensures { IfOk result (λ rows. (name : Sequence ℕ)
         → option_copied (at_name rows name) ≡ find (λ r. bytes_eq r.name name) tables.now) }
@@ -56,7 +57,7 @@ fn rows_of_tables<'a>(
 
 fn rows_of_queues<'a>(
     alloc: Global,
-    queues: &'a List<QueueRow>,
+    queues: &'a NamedList<QueueRow>,
 ) -> Result<BTreeMap<Name, &'a QueueRow>, AllocError>
     ensures { IfOk result (λ rows. (name : Sequence ℕ)
         → option_copied (at_name rows name) ≡ find (λ r. bytes_eq r.name name) queues.now) }
@@ -87,7 +88,7 @@ fn count_one(counts: &mut BTreeMap<Name, usize>, queue: &Name) -> Result<(), All
     Ok(())
 }
 
-fn counts_of_subs(alloc: Global, subs: &List<SubRow>) -> Result<BTreeMap<Name, usize>, AllocError>
+fn counts_of_subs(alloc: Global, subs: &NamedList<SubRow>) -> Result<BTreeMap<Name, usize>, AllocError>
     ensures { IfOk result (λ counts. (queue : Sequence ℕ)
         → count_at (at_name counts) queue ≡ length (filter (λ s. bytes_eq s.queue queue) subs.now)) }
 {

@@ -7,16 +7,13 @@ ghost use Rattle.queue_rows.specs.Valid.{is_same_seen};
 
 use exception_queues::{MessageTables, find_queue, find_table};
 use payload_records::Name;
-use queue_rows::{Change, ScheduleRow, SeenRow, SubRow, Tables};
+use queue_rows::{Change, ScheduleRow, SeenRow, SubKey, SubRow, Tables};
 
 /// The subscriber of that queue and name. It takes no memory.
 pub fn find_sub<'a>(tables: &'a Tables, queue: &Name, name: &Name) -> Option<&'a SubRow>
     ensures { option_copied result ≡ find_sub tables.now queue.now name.now }
 {
-    tables
-        .subs
-        .iter()
-        .find(|sub| sub.queue == *queue && sub.name == *name)
+    tables.subs.find(&SubKey { queue, name })
 }
 
 /// The schedule of that queue and destination. It takes no memory.

@@ -5,6 +5,7 @@ ghost use Rattle.queue_rows.specs.Rows.{is_same_table, is_same_queue, is_same_su
 ghost use Rattle.queue_rows.specs.Valid.{is_same_message, is_same_seen, has_distinct_rows};
 ghost use Rattle.valid_tables.specs.Met.{has_name, has_pair, MeetsName, MeetsPair};
 
+use named_list::NamedList;
 use payload_records::{Copied, List, Name};
 use queue_rows::{MsgRow, QueueRow, ScheduleRow, SeenRow, SubRow, TableRow, Tables};
 use row_tree::Tree;
@@ -30,7 +31,7 @@ fn meet_pair(
     Ok(met.insert((first.copied()?, second.copied()?))?)
 }
 
-fn are_distinct_tables(alloc: Global, tables: &List<TableRow>) -> Result<bool, AllocError>
+fn are_distinct_tables(alloc: Global, tables: &NamedList<TableRow>) -> Result<bool, AllocError>
     ensures { IfOk result (λ distinct. distinct ≡ are_distinct is_same_table tables.now) }
 {
     let mut met = BTreeSet::new(alloc);
@@ -42,7 +43,7 @@ fn are_distinct_tables(alloc: Global, tables: &List<TableRow>) -> Result<bool, A
     Ok(true)
 }
 
-fn are_distinct_queues(alloc: Global, queues: &List<QueueRow>) -> Result<bool, AllocError>
+fn are_distinct_queues(alloc: Global, queues: &NamedList<QueueRow>) -> Result<bool, AllocError>
     ensures { IfOk result (λ distinct. distinct ≡ are_distinct is_same_queue queues.now) }
 {
     let mut met = BTreeSet::new(alloc);
@@ -54,7 +55,7 @@ fn are_distinct_queues(alloc: Global, queues: &List<QueueRow>) -> Result<bool, A
     Ok(true)
 }
 
-fn are_distinct_subs(alloc: Global, subs: &List<SubRow>) -> Result<bool, AllocError>
+fn are_distinct_subs(alloc: Global, subs: &NamedList<SubRow>) -> Result<bool, AllocError>
     ensures { IfOk result (λ distinct. distinct ≡ are_distinct is_same_sub subs.now) }
 {
     let mut met = BTreeSet::new(alloc);

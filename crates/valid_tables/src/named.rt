@@ -28,7 +28,7 @@ pub trait NamedRows {
         ensures { result ≡ length (subscribers_of (tables self.now) queue.now) };
 }
 
-/// The tables themselves, where each is found by a walk over its like.
+/// The tables themselves.
 impl NamedRows for Tables {
     ghost tables = { λ t. t };
 
@@ -45,7 +45,7 @@ impl NamedRows for Tables {
     }
 
     fn sub_count(&self, queue: &Name) -> usize {
-        self.subs.iter().filter(|sub| sub.queue == *queue).count()
+        self.subs.count_of(queue)
     }
 }
 

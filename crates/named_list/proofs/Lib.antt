@@ -1,0 +1,4 @@
+pub mod Finding
+pub mod Groups
+pub mod Places
+pub mod Stamps
