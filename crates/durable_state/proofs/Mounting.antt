@@ -48,16 +48,16 @@ module _ {D : Type 0} (seen : D → Option (List ℕ)) (images : D → ℕ → L
   mounted_faults : (disk : D) (t : Tables) (j : Journaled D) → IsMountedOn seen images calls faults disk t j → AreFaults faults disk j
   mounted_faults disk t j m = record { fine = λ none. m.fine; rose = λ some. not_failed j.failed_at m.unfailed some }
 
-  pub begins : (w : World) (l : RunLogs D) (home away : Tables) (scripts : List SessionScript) → w ≡ opened home away scripts → l.calls ≡ [] → (b : Begun D)
+  pub begins : (w : World) (l : RunLogs D) (home away : Tables) (scripts : List SessionScript) → w ≡ opened home away scripts → l.calls.items ≡ [] → (b : Begun D)
       → IsMountedOn seen images calls faults b.home home l.home → IsMountedOn seen images calls faults b.away away l.away → Survives seen images calls faults b (held_of w l)
   begins w l home away scripts is none b at_home at_away =
-      let entries : counted w.entries l.calls ≡ [] = ap (λ (es : List Entry). counted es l.calls) (few_opened w home away scripts is) in
+      let entries : counted w.entries l.calls.items ≡ [] = ap (λ (es : List Entry). counted es l.calls.items) (few_opened w home away scripts is) in
       record {
         home = subst (λ (r : Run). SurvivesAt seen images calls b.home r l.home)
-            (sym (run_opened Home (calls b.home) w.home.opening home (counted w.entries l.calls) (ap (λ (v : World). v.home.opening) is ∙ home_opened home away scripts) entries))
+            (sym (run_opened Home (calls b.home) w.home.opening home (counted w.entries l.calls.items) (ap (λ (v : World). v.home.opening) is ∙ home_opened home away scripts) entries))
             (mounted Home b.home home l.home at_home);
         away = subst (λ (r : Run). SurvivesAt seen images calls b.away r l.away)
-            (sym (run_opened Away (calls b.away) w.away.opening away (counted w.entries l.calls) (ap (λ (v : World). v.away.opening) is ∙ away_opened home away scripts) entries))
+            (sym (run_opened Away (calls b.away) w.away.opening away (counted w.entries l.calls.items) (ap (λ (v : World). v.away.opening) is ∙ away_opened home away scripts) entries))
             (mounted Away b.away away l.away at_away);
         home_faults = mounted_faults b.home home l.home at_home;
         away_faults = mounted_faults b.away away l.away at_away;

@@ -1,24 +1,27 @@
 -- What the steps of a run add to its world.
-use Rattle.std.proofs.Common.{◌≡◌, ◌⊎◌, inl, inr, ◌+◌, ◌++◌, ℕ, Bool, true, false, not, if◌then◌else◌, List, [], ◌∷◌, Option, Some, None, refl, sym, ap, ◌∙◌, subst, arith}
-use Rattle.std.specs.Prelude.{◌&&◌, nat_lt, slice_get, option_map, IfSome, is_some, Result, OnOk, OnErr}
+use Rattle.std.proofs.Common.{◌≡◌, ◌⊎◌, inl, inr, ◌+◌, ◌++◌, ℕ, Bool, true, false, not, if◌then◌else◌, List, [], ◌∷◌, length, Option, Some, None, refl, sym, ap, ◌∙◌, subst, arith}
+use Rattle.std.specs.Prelude.{◌&&◌, ◌≤◌, IsSome, nat_lt, slice_get, option_map, IfSome, is_some, Result, OnOk, OnErr}
+use Rattle.std.proofs.Math.ListN.{length-set}
 use Rattle.std.proofs.lemmas.Bool.{le-ltb}
 use Rattle.aq_base.specs.declared.DbId.{DbId}
 use Rattle.aq_base.specs.declared.DbId.TheVariants.{Home, Away}
 use Rattle.history_fates.specs.Durability.{is_flush}
 use Rattle.queue_rows.specs.Propagating.{Arriving}
-use Rattle.queue_rows.specs.Session.{Session}
+use Rattle.queue_rows.specs.Session.{Session, standing_after}
 use Rattle.queue_rows.specs.World.{at_home, at_away, other_db, World, Transit, entry_of, read_clock, stepped, with_session}
 use Rattle.queue_rows.specs.declared.change.Change.{Change}
 use Rattle.queue_rows.specs.declared.history.Entry.{Entry}
 use Rattle.queue_rows.specs.declared.history.SlotRef.{SlotRef}
 use Rattle.queue_rows.specs.declared.history.Step.{Step}
 use Rattle.queue_rows.specs.declared.history.Step.TheVariants.{Call, Park, Told, Flush, End, Offer, Arrive, Confirm}
-use Rattle.queue_rows.specs.Turns.{ids_taken, all_durable, ended, flushed, is_durable, parked, told}
-use Rattle.queue_rows.specs.Sending.{offers, arrives, confirms, home_of, away_of, ids_copied, sent, taking_ids, transit_after}
+use Rattle.queue_rows.specs.Turns.{ids_taken, all_durable, called, ended, flushed, is_durable, parked, told}
+use Rattle.queue_rows.specs.Sending.{Sending, offers, arrives, confirms, home_of, away_of, ids_copied, sent, taking_ids, transit_after}
 use Rattle.run_state.specs.CallEffects.{called_with}
-use Rattle.run_state.specs.Entries.{IsUntold}
-use Rattle.run_state.specs.Sessions.{OfSession, session_of, unmarked}
+use Rattle.run_state.specs.Promises.{promised}
+use Rattle.run_state.specs.Sessions.{OfSession, gone_in, session_of, unmarked}
 use Rattle.run_state.proofs.Calls.{session_there}
+use Rattle.run_state.proofs.Leaving.{standing_is}
+use Rattle.run_state.proofs.Promises.{length-left, telling_takes}
 use Rattle.run_state.proofs.Results.{of_some, ok_from}
 use Rattle.sessions.specs.declared.state.SessionState.{SessionState}
 use Rattle.run_state.specs.declared.call_effect.CallEffect.{CallEffect}
@@ -34,6 +37,7 @@ pub record Adds (flush : Bool) (home away : List Change) (w v : World) : Type 0 
   pub moment_is : entry.moment ≡ w.moment
   pub home_opening : v.home.opening ≡ w.home.opening
   pub away_opening : v.away.opening ≡ w.away.opening
+  pub count : length v.sessions ≡ length w.sessions
 
 pub adds_stepped : (flush : Bool) (actor : ℕ) (w : World) (home away : List Change) (step : Step) → is_flush step ≡ flush → Adds flush home away w (stepped actor w home away step)
 unfolding stepped
@@ -46,12 +50,13 @@ adds_stepped flush actor w home away step is = record {
   moment_is = refl;
   home_opening = refl;
   away_opening = refl;
+  count = refl;
 }
 
 -- ---- what changes nothing of it
 
-adds_sessions : (flush : Bool) (home away : List Change) (w u : World) (ss : List Session) → Adds flush home away w u → Adds flush home away w (record u { sessions = ss })
-adds_sessions flush home away w u ss a = record {
+adds_sessions : (flush : Bool) (home away : List Change) (w u : World) (ss : List Session) → length ss ≡ length u.sessions → Adds flush home away w u → Adds flush home away w (record u { sessions = ss })
+adds_sessions flush home away w u ss many a = record {
   entry = a.entry;
   entries = a.entries;
   is = a.is;
@@ -60,6 +65,7 @@ adds_sessions flush home away w u ss a = record {
   moment_is = a.moment_is;
   home_opening = a.home_opening;
   away_opening = a.away_opening;
+  count = many ∙ a.count;
 }
 
 adds_transit : (flush : Bool) (home away : List Change) (w u : World) (t : Option Transit) → Adds flush home away w u → Adds flush home away w (record u { transit = t })
@@ -72,6 +78,7 @@ adds_transit flush home away w u t a = record {
   moment_is = a.moment_is;
   home_opening = a.home_opening;
   away_opening = a.away_opening;
+  count = a.count;
 }
 
 adds_ids : (flush : Bool) (home away : List Change) (w u : World) (db : DbId) (n : ℕ) → Adds flush home away w u → Adds flush home away w (taking_ids db n u)
@@ -84,6 +91,7 @@ adds_ids flush home away w u Home n a = record {
   moment_is = a.moment_is;
   home_opening = a.home_opening;
   away_opening = a.away_opening;
+  count = a.count;
 }
 adds_ids flush home away w u Away n a = record {
   entry = a.entry;
@@ -94,6 +102,7 @@ adds_ids flush home away w u Away n a = record {
   moment_is = a.moment_is;
   home_opening = a.home_opening;
   away_opening = a.away_opening;
+  count = a.count;
 }
 
 adds_durable : (flush : Bool) (home away : List Change) (w u : World) → Adds flush home away w u → Adds flush home away w (all_durable u)
@@ -106,9 +115,13 @@ adds_durable flush home away w u a = record {
   moment_is = a.moment_is;
   home_opening = a.home_opening;
   away_opening = a.away_opening;
+  count = a.count;
 }
 
 -- ---- sessions
+
+standing_many : (db : DbId) (cs : List Change) (ss : List Session) → length (standing_after db cs ss) ≡ length ss
+standing_many db cs ss = ap length (standing_is db cs ss) ∙ length-left db (gone_in cs) ss
 
 pub adds_called : (i : ℕ) (w : World) (s : Session) (call : CallEffect) → Adds false (at_home s.at call.commit) (at_away s.at call.commit) w (called_with i call w s)
 adds_called i w s call =
@@ -116,16 +129,16 @@ adds_called i w s call =
     let away = at_away s.at call.commit in
     let step = Call (s.next + 1) call.reply in
     let u = taking_ids s.at (ids_taken call.reply) (stepped i w home away step) in
-    adds_sessions false home away w u _ (adds_ids false home away w (stepped i w home away step) s.at (ids_taken call.reply) (adds_stepped false i w home away step refl))
+    adds_sessions false home away w u _ (standing_many s.at call.commit _ ∙ length-set u.sessions i _) (adds_ids false home away w (stepped i w home away step) s.at (ids_taken call.reply) (adds_stepped false i w home away step refl))
 
 pub adds_ended : (i : ℕ) (w : World) (s : Session) → Adds false [] [] w (ended i s w)
-adds_ended i w s = adds_sessions false [] [] w (stepped i w [] [] End) _ (adds_stepped false i w [] [] End refl)
+adds_ended i w s = adds_sessions false [] [] w (stepped i w [] [] End) _ (length-set (stepped i w [] [] End).sessions i _) (adds_stepped false i w [] [] End refl)
 
 pub adds_parked : (i since : ℕ) (w : World) (s : Session) → is_some s.parked ≡ false → Adds false [] [] w (parked i s since w)
 adds_parked i since w s none =
     let v = with_session i (record s { parked = Some since }) (stepped i w [] [] (Park (s.next + 1))) in
     subst (Adds false [] [] w) (sym (if_false (is_some s.parked) w v none))
-    (adds_sessions false [] [] w (stepped i w [] [] (Park (s.next + 1))) _ (adds_stepped false i w [] [] (Park (s.next + 1)) refl))
+    (adds_sessions false [] [] w (stepped i w [] [] (Park (s.next + 1))) _ (length-set (stepped i w [] [] (Park (s.next + 1))).sessions i _) (adds_stepped false i w [] [] (Park (s.next + 1)) refl))
 
 -- ---- readings
 
@@ -153,7 +166,7 @@ durable_if : (b : Bool) (w u : World) → (b ≡ true → is_durable w ≡ true)
 durable_if true w u here later = here refl
 durable_if false w u here later = later
 
-durable_flushed : (i : ℕ) (w : World) → is_durable (flushed i w) ≡ true
+pub durable_flushed : (i : ℕ) (w : World) → is_durable (flushed i w) ≡ true
 unfolding flushed
 durable_flushed i w = durable_if (is_durable w) w (all_durable (stepped i w [] [] Flush)) (λ h. h) (durable_now (stepped i w [] [] Flush))
 
@@ -202,16 +215,11 @@ told_behind i number w v h =
 pub told_on : (i number : ℕ) (w u v : World) → u ≡ flushed i w → OfSession i u (λ s. v ≡ told i s number u) → OfSession i w (λ s. v ≡ told i s number w)
 told_on i number w u v is h = told_behind i number w v (subst (λ (x : World). OfSession i x (λ s. v ≡ told i s number x)) is h)
 
--- where all was durable, a telling that was broken off left the world
-pub untold_same : (i : ℕ) (w v : World) → flushed i w ≡ w → IsUntold i w v → v ≡ w
-untold_same i w v same (inl is) = is
-untold_same i w v same (inr is) = is ∙ same
-
 -- of a world in which all is durable
 pub adds_told : (i number : ℕ) (w : World) (s : Session) → flushed i w ≡ w → Adds false [] [] w (told i s number w)
 adds_told i number w s same =
     let telling : World → World = λ u. with_session i (record s { untold = None }) (stepped i u [] [] (Told number)) in
-    subst (λ (u : World). Adds false [] [] w (telling u)) (sym same) (adds_sessions false [] [] w (stepped i w [] [] (Told number)) _ (adds_stepped false i w [] [] (Told number) refl))
+    subst (λ (u : World). Adds false [] [] w (telling u)) (sym same) (adds_sessions false [] [] w (stepped i w [] [] (Told number)) _ (length-set (stepped i w [] [] (Told number)).sessions i _) (adds_stepped false i w [] [] (Told number) refl))
 
 -- ---- propagation
 
@@ -293,10 +301,19 @@ pub confirmed_adds : {T E : Type 0} (made : Result T E) (actor : ℕ) (w v : Wor
 confirmed_adds made actor w v at cs more same did = ok_from made did (λ is.
     subst (λ (l : List Change). Adds false (at_home at.db l) (at_away at.db l) w v) same (subst (Adds false (at_home at.db more) (at_away at.db more) w) (sym (is 0)) (adds_confirmed actor w at 0 more)))
 
-pub told_adds : {T E : Type 0} (made : Result T E) (i number : ℕ) (w v : World) (state : SessionState) → option_map session_of (Some state) ≡ option_map unmarked (slice_get w.sessions i)
-    → flushed i w ≡ w → OnOk made (OfSession i w (λ s. v ≡ told i s number w)) → OnOk made (Adds false [] [] w v)
-told_adds made i number w v state is same h = ok_from made h (λ o.
-    let s = there_is i w v (λ t. told i t number w) state is o in subst (Adds false [] [] w) (sym s.1) (adds_told i number w s.0 same))
+pub told_adds : (i number : ℕ) (w v : World) (state : SessionState) → option_map session_of (Some state) ≡ option_map unmarked (slice_get w.sessions i)
+    → flushed i w ≡ w → OfSession i w (λ s. v ≡ told i s number w) → Adds false [] [] w v
+told_adds i number w v state is same o =
+    let s = there_is i w v (λ t. told i t number w) state is o in subst (Adds false [] [] w) (sym s.1) (adds_told i number w s.0 same)
+
+-- what was promised for it is taken
+pub told_takes : (i number : ℕ) (w v : World) (state : SessionState) → option_map session_of (Some state) ≡ option_map unmarked (slice_get w.sessions i)
+    → OfSession i w (λ s. IsSome s.untold) → OfSession i w (λ s. v ≡ told i s number w) → promised v + 1 ≤ promised w
+told_takes i number w v state is owed did =
+    let s = session_there (slice_get w.sessions i) state is in
+    let made = of_some (λ t. v ≡ told i t number w) (slice_get w.sessions i) s.0 s.1 did in
+    subst (λ (u : World). promised u + 1 ≤ promised w) (sym made)
+    (telling_takes i number s.0 w s.1 (of_some (λ t. IsSome t.untold) (slice_get w.sessions i) s.0 s.1 owed))
 
 -- ---- behind a flush
 
@@ -310,3 +327,7 @@ pub session_behind : (i : ℕ) (w u : World) (state : SessionState) → u ≡ fl
     → option_map session_of (Some state) ≡ option_map unmarked (slice_get u.sessions i)
 session_behind i w u state is there =
     there ∙ sym (ap (λ (ss : List Session). option_map unmarked (slice_get ss i)) (ap (λ (x : World). x.sessions) is ∙ sessions_flushed i w))
+
+pub owed_behind : (i : ℕ) (old u : World) → u ≡ flushed i old → OfSession i old (λ s. IsSome s.untold) → OfSession i u (λ s. IsSome s.untold)
+owed_behind i old u is owed =
+    subst (λ (ss : List Session). IfSome (slice_get ss i) (λ s. IsSome s.untold)) (sym (ap (λ (x : World). x.sessions) is ∙ sessions_flushed i old)) owed

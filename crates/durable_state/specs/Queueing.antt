@@ -45,19 +45,16 @@ queued_of home away = record { home = not (length home == 0); away = not (length
 abbrev pub numbers : {D : Type 0} → (D → ℕ) → RunLogs D → DiskCalls
 numbers calls l = record { home = calls l.home.disk; away = calls l.away.disk }
 
-abbrev pub with_numbers : {D : Type 0} → (D → ℕ) → RunLogs D → RunLogs D
-with_numbers calls l = record l { calls = l.calls ++ numbers calls l ∷ [] }
-
 -- the logs have queued what an entry commits, and keep the call numbers behind it
 pub record Enters {D : Type 0} (seen : D → Option (List ℕ)) (images : D → ℕ → List ℕ → Type 0) (calls : D → ℕ) (moment : ℕ) (home away : List Change) (old new : RunLogs D) : Type 0 where
   pub home_log : Queues seen images calls moment home old.home new.home
   pub away_log : Queues seen images calls moment away old.away new.away
-  pub calls_are : new.calls ≡ old.calls ++ numbers calls old ∷ []
+  pub calls_are : new.calls.items ≡ old.calls.items ++ numbers calls old ∷ []
 
 -- the logs without the entry that came last, of which these have a commit
 abbrev pub taken_back : {D : Type 0} → Queued → RunLogs D → RunLogs D
 taken_back queued l = record {
   home = unqueueing queued.home l.home;
   away = unqueueing queued.away l.away;
-  calls = take (length l.calls - 1) l.calls;
+  calls = record { items = take (length l.calls.items - 1) l.calls.items; capacity = l.calls.capacity };
 }

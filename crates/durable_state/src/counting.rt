@@ -5,6 +5,7 @@ ghost use Rattle.durable_state.specs.Counted.{counted, counted_at};
 use crate::disk_calls::DiskCalls;
 use payload_records::List;
 use queue_rows::Entry;
+use run_state::ReservedList;
 
 fn set_calls(entries: &mut List<Entry>, at: usize, numbers: DiskCalls)
     ensures { entries.new ≡ counted_at at numbers entries.old }
@@ -16,8 +17,8 @@ fn set_calls(entries: &mut List<Entry>, at: usize, numbers: DiskCalls)
 }
 
 /// Puts into each entry the call numbers behind it. It takes no memory.
-pub(crate) fn set_all_calls(entries: &mut List<Entry>, calls: &List<DiskCalls>)
-    ensures { entries.new ≡ counted entries.old calls.now }
+pub(crate) fn set_all_calls(entries: &mut List<Entry>, calls: &ReservedList<DiskCalls>)
+    ensures { entries.new ≡ counted entries.old calls.now.items }
 {
     for at in 0..calls.len() {
         if let Some(numbers) = calls.get(at) {

@@ -13,12 +13,13 @@ use crash_laws::opening_survives;
 use message_store::PreparedStore;
 use payload_records::List;
 use queue_rows::{History, SessionScript};
-use run_state::RunState;
+use run_state::{ReservedList, RunState};
 use std::alloc::{AllocError, Global};
 use std::marker::Model;
 
 /// The state of a run whose commits stand in the logs of its databases. Contracts see the world of the definitions, its entries with the
-/// disks' call numbers, and both logs. Whatever a crash leaves of the disks, each step keeps that the run survives it.
+/// disks' call numbers, and both logs. Whatever a crash leaves of the disks, each step keeps that the run survives it. There is always room
+/// for the call numbers of the entries that are promised.
 #[derive(Drop)]
 pub struct DurableState<D: Disk> {
     pub(crate) state: RunState,
@@ -29,6 +30,8 @@ impl<D: Disk> Model for DurableState<D> {
     ghost use Rattle.std.specs.Prelude.{◌≡◌, length};
     ghost use Rattle.std.specs.Coded.{codes};
     ghost use Rattle.rule_conditions.specs.contracts.condition.Cond as cond;
+    ghost use Rattle.run_state.specs.Promises.{promised};
+    ghost use Rattle.run_state.specs.Reserved.{HasPlaces};
     ghost use Rattle.durable_state.specs.Counted.{counted};
     ghost use Rattle.durable_state.specs.Held.{Held};
 
@@ -38,12 +41,15 @@ impl<D: Disk> Model for DurableState<D> {
 
     ghost view = { λ s. record {
       world = s.state;
-      entries = counted s.state.entries s.logs.calls;
+      entries = counted s.state.entries s.logs.calls.items;
       home = s.logs.home;
       away = s.logs.away;
     } };
 
-    ghost invariant = { λ s. length s.logs.calls ≡ length s.state.entries };
+    ghost invariant = { λ s. record {
+      few : length s.logs.calls.items ≡ length s.state.entries;
+      room : HasPlaces (promised s.state) s.logs.calls;
+    } };
 }
 
 /// The disks of a run that was not begun.
@@ -93,7 +99,7 @@ impl<D: Disk> DurableState<D> {
                 logs: RunLogs {
                     home: home_log,
                     away: away_log,
-                    calls: List::new(alloc),
+                    calls: ReservedList::new(alloc),
                 },
             }),
             Err(AllocError) => Err(Unmounted {

@@ -10,5 +10,5 @@ mod log_steps;
 mod run_logs;
 mod steps;
 
-pub use broken::Broken;
+pub use broken::{Broken, Halted};
 pub use durable_state::{DurableState, Finished, Unmounted};

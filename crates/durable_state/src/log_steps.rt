@@ -1,5 +1,5 @@
 // What a step does to one log.
-ghost use Rattle.std.specs.Prelude.{◌≡◌, ◌≤◌, ◌<◌, None, IsSome, IfOk, OnOk, OnErr, length, true};
+ghost use Rattle.std.specs.Prelude.{◌≡◌, ◌≤◌, ◌<◌, ℕ, [], None, IsSome, IfOk, OnOk, OnErr, length, true};
 ghost use Rattle.durable_state.specs.Queueing.{Queues, unqueueing};
 ghost use Rattle.durable_state.specs.Writing.{Flushes, Writes};
 
@@ -30,6 +30,15 @@ pub(crate) fn queue<D: Disk>(
     let commit = Commit { moment, changes };
     log.prepare(&commit)?;
     Ok(commit.changes)
+}
+
+/// A log goes on as it is where nothing is committed.
+pub(crate) fn queue_nothing<D: Disk>(log: &CommitLog<D>)
+    ensures { (moment : ℕ) → Queues D.seen D.is_image D.calls moment [] log.now log.now }
+{
+    let _log = log;
+    entry_comes::<D>();
+    loggable_so_far();
 }
 
 /// Takes back what was queued last, if that is to be taken back.

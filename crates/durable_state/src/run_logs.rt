@@ -1,17 +1,19 @@
 // The logs of both databases.
-ghost use Rattle.std.specs.Prelude.{◌≡◌, ◌≤◌, ◌⊎◌, ◌++◌, ◌∷◌, [], None, IsSome, IfOk, OnOk, OnErr, length, true, false};
+ghost use Rattle.std.specs.Prelude.{◌≡◌, ◌≤◌, ◌+◌, ◌⊎◌, ◌++◌, ◌∷◌, ℕ, [], None, IsSome, IfOk, OnOk, OnErr, length, true, false};
 ghost use Rattle.queue_rows.specs.World.{at_home, at_away};
-ghost use Rattle.durable_state.specs.Queueing.{Enters, Queues, queued_of, taken_back, with_numbers};
+ghost use Rattle.run_state.specs.Reserved.{HasPlaces};
+ghost use Rattle.durable_state.specs.Queueing.{Enters, Queues, numbers, queued_of, taken_back};
 ghost use Rattle.durable_state.specs.Writing.{Flushes, Writes};
 
 use crate::disk_calls::DiskCalls;
-use crate::log_steps::{append, queue, unqueue};
+use crate::log_steps::{append, queue, queue_nothing, unqueue};
 use aq_base::DbId;
 use aq_disk::Disk;
 use commit_log::CommitLog;
 use payload_records::List;
 use queue_rows::Change;
 use redo_journal::JournalFault;
+use run_state::{ReservedList, RunState};
 use std::alloc::AllocError;
 
 /// Which of the logs have a commit of the entry that comes.
@@ -41,7 +43,7 @@ pub(crate) struct EnteredAt {
 pub(crate) struct RunLogs<D: Disk> {
     pub(crate) home: CommitLog<D>,
     pub(crate) away: CommitLog<D>,
-    pub(crate) calls: List<DiskCalls>,
+    pub(crate) calls: ReservedList<DiskCalls>,
 }
 
 /// Queues what is committed at home and at away. At want of memory both logs are as before.
@@ -82,67 +84,82 @@ impl<D: Disk> RunLogs<D> {
         self.home.failed_at().is_some() || self.away.failed_at().is_some()
     }
 
-    /// Puts the present call numbers of the disks at the end. At want of memory all is as before.
-    pub(crate) fn count(&mut self) -> Result<(), AllocError>
-        ensures ok { OnOk result (self.new ≡ with_numbers D.calls self.old) }
-        ensures err { OnErr result (self.new ≡ self.old) }
+    /// The present call numbers of the disks.
+    fn numbers(&self) -> DiskCalls
+        ensures { result ≡ numbers D.calls self.now }
     {
-        let numbers = DiskCalls {
+        DiskCalls {
             home: self.home.calls(),
             away: self.away.calls(),
-        };
-        self.calls.push(numbers)
+        }
     }
 
-    /// An entry comes that is no flush, and commits these changes: they are queued, and its call numbers kept. At want of memory all is as
-    /// before.
+    /// Puts the present call numbers of the disks at the end, in a place that was kept for them.
+    pub(crate) fn count(&mut self)
+        requires { HasPlaces 1 self.old.calls }
+        ensures home { self.new.home ≡ self.old.home }
+        ensures away { self.new.away ≡ self.old.away }
+        ensures calls { self.new.calls.items ≡ self.old.calls.items ++ numbers D.calls self.old ∷ [] }
+        ensures capacity { self.old.calls.capacity ≤ self.new.calls.capacity }
+    {
+        let numbers = self.numbers();
+        self.calls.push(numbers);
+    }
+
+    /// An entry comes that is no flush, and commits these changes: they are queued, and its call numbers kept; and there is room for what is
+    /// promised behind it. At want of memory all is as before.
     pub(crate) fn enter(
         &mut self,
-        moment: u64,
+        state: &RunState,
         home: List<Change>,
         away: List<Change>,
     ) -> Result<Entered, AllocError>
         ensures same { IfOk result (λ e. e
             ≡ record { home = home; away = away; queued = queued_of home away }) }
-        ensures ok { OnOk result (Enters D.seen D.is_image D.calls moment home away self.old self.new) }
+        ensures ok { OnOk result
+            (Enters D.seen D.is_image D.calls state.now.moment home away self.old self.new) }
+        ensures room { OnOk result (HasPlaces (length state.now.sessions + 1) self.new.calls) }
         ensures err { OnErr result (self.new ≡ self.old) }
     {
-        self.count()?;
-        match queue_both(&mut self.home, &mut self.away, moment, home, away) {
-            Ok(entered) => Ok(entered),
-            Err(AllocError) => {
-                let _numbers = self.calls.pop();
-                Err(AllocError)
-            }
+        let numbers = self.numbers();
+        let moment = state.moment();
+        let entered = queue_both(&mut self.home, &mut self.away, moment, home, away)?;
+        if let Err(AllocError) = self.calls.reserve(state.session_count()) {
+            unqueue(&mut self.home, entered.queued.home);
+            unqueue(&mut self.away, entered.queued.away);
+            return Err(AllocError);
         }
+        self.calls.push(numbers);
+        Ok(entered)
     }
 
     /// The same of an entry that commits these changes at one database, and nothing at the other one.
     pub(crate) fn enter_at(
         &mut self,
+        state: &RunState,
         db: DbId,
-        moment: u64,
         changes: List<Change>,
     ) -> Result<EnteredAt, AllocError>
         ensures same { IfOk result (λ e. e ≡ record {
           changes = changes;
           queued = queued_of (at_home db changes) (at_away db changes);
         }) }
-        ensures ok { OnOk result (Enters D.seen D.is_image D.calls moment
+        ensures ok { OnOk result (Enters D.seen D.is_image D.calls state.now.moment
             (at_home db changes) (at_away db changes) self.old self.new) }
+        ensures room { OnOk result (HasPlaces (length state.now.sessions + 1) self.new.calls) }
         ensures err { OnErr result (self.new ≡ self.old) }
     {
         let nothing = List::new(changes.allocator());
         match db {
             DbId::Home => {
-                let Entered { home, queued, .. } = self.enter(moment, changes, nothing)?;
+                let Entered { home, queued, .. } = self.enter(state, changes, nothing)?;
                 Ok(EnteredAt {
                     changes: home,
                     queued,
                 })
             }
             DbId::Away => {
-                let Entered { away, queued, .. } = self.enter(moment, nothing, changes)?;
+                let Entered { away, queued, .. } = self.enter(state, nothing, changes)?;
                 Ok(EnteredAt {
                     changes: away,
                     queued,
@@ -152,14 +169,26 @@ impl<D: Disk> RunLogs<D> {
     }
 
     /// The same of an entry that commits nothing.
-    pub(crate) fn note(&mut self, moment: u64) -> Result<Queued, AllocError>
+    pub(crate) fn note(&mut self, state: &RunState) -> Result<Queued, AllocError>
         ensures same { IfOk result (λ queued. queued ≡ queued_of [] []) }
-        ensures ok { OnOk result (Enters D.seen D.is_image D.calls moment [] [] self.old self.new) }
+        ensures ok { OnOk result (Enters D.seen D.is_image D.calls state.now.moment [] [] self.old self.new) }
+        ensures room { OnOk result (HasPlaces (length state.now.sessions + 1) self.new.calls) }
         ensures err { OnErr result (self.new ≡ self.old) }
     {
-        let alloc = self.calls.allocator();
-        let entered = self.enter(moment, List::new(alloc), List::new(alloc))?;
+        let alloc = state.allocator();
+        let entered = self.enter(state, List::new(alloc), List::new(alloc))?;
         Ok(entered.queued)
+    }
+
+    /// An entry comes that is no flush and commits nothing, for which a place was kept.
+    pub(crate) fn pass(&mut self)
+        requires { HasPlaces 1 self.old.calls }
+        ensures enters { (moment : ℕ) → Enters D.seen D.is_image D.calls moment [] [] self.old self.new }
+        ensures capacity { self.old.calls.capacity ≤ self.new.calls.capacity }
+    {
+        queue_nothing(&self.home);
+        queue_nothing(&self.away);
+        self.count();
     }
 
     /// What became of a step whose entry came: where it was not made, the entry is taken back.
@@ -174,7 +203,7 @@ impl<D: Disk> RunLogs<D> {
         }
         unqueue(&mut self.home, queued.home);
         unqueue(&mut self.away, queued.away);
-        let _numbers = self.calls.pop();
+        self.calls.drop_last();
     }
 
     /// Writes all that is queued, at home and then at away. Where home's disk fails, away's is not called.

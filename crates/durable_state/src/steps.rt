@@ -61,7 +61,7 @@ impl<D: Disk> DurableState<D> {
             holdings,
             positions,
         } = effect;
-        let EnteredAt { changes, queued } = self.logs.enter_at(db, self.state.moment(), commit)?;
+        let EnteredAt { changes, queued } = self.logs.enter_at(&self.state, db, commit)?;
         let effect = CallEffect {
             reply,
             commit: changes,
@@ -88,7 +88,7 @@ impl<D: Disk> DurableState<D> {
         if session.parked.is_some() {
             return Ok(());
         }
-        let queued = self.logs.note(self.state.moment())?;
+        let queued = self.logs.note(&self.state)?;
         let made = self.state.park(at, since);
         self.logs.settle(queued, &made);
         made
@@ -105,7 +105,7 @@ impl<D: Disk> DurableState<D> {
         let Some(_) = self.state.session(at) else {
             return Ok(());
         };
-        let queued = self.logs.note(self.state.moment())?;
+        let queued = self.logs.note(&self.state)?;
         let made = self.state.end(at);
         self.logs.settle(queued, &made);
         made
@@ -123,7 +123,7 @@ impl<D: Disk> DurableState<D> {
         ensures disks { Goes D.seen D.is_image D.calls D.faults self.old self.new }
         ensures fine { HasFailed self.new → HasFailed self.old }
     {
-        let Entered { home, away, queued } = self.logs.enter(self.state.moment(), home, away)?;
+        let Entered { home, away, queued } = self.logs.enter(&self.state, home, away)?;
         let made = self.state.time(actor, home, away);
         self.logs.settle(queued, &made);
         made
@@ -136,7 +136,7 @@ impl<D: Disk> DurableState<D> {
         ensures disks { Goes D.seen D.is_image D.calls D.faults self.old self.new }
         ensures fine { HasFailed self.new → HasFailed self.old }
     {
-        let queued = self.logs.note(self.state.moment())?;
+        let queued = self.logs.note(&self.state)?;
         let made = self.state.offer(actor, at, to);
         self.logs.settle(queued, &made);
         made
@@ -156,7 +156,7 @@ impl<D: Disk> DurableState<D> {
             there,
         } = arriving;
         let (home, away) = sides(at.db, origin, there);
-        let Entered { home, away, queued } = self.logs.enter(self.state.moment(), home, away)?;
+        let Entered { home, away, queued } = self.logs.enter(&self.state, home, away)?;
         let (origin, there) = sides(at.db, home, away);
         let arriving = Arriving {
             outcome,
@@ -181,9 +181,7 @@ impl<D: Disk> DurableState<D> {
         ensures disks { Goes D.seen D.is_image D.calls D.faults self.old self.new }
         ensures fine { HasFailed self.new → HasFailed self.old }
     {
-        let EnteredAt { changes, queued } = self
-            .logs
-            .enter_at(at.db, self.state.moment(), changes)?;
+        let EnteredAt { changes, queued } = self.logs.enter_at(&self.state, at.db, changes)?;
         let made = self.state.confirm(actor, at, changes);
         self.logs.settle(queued, &made);
         made

@@ -1,5 +1,5 @@
 -- What a call, a telling, a wait and an end make of a run.
-use Rattle.std.proofs.Common.{◌≡◌, ℕ, ◌+◌, ◌<◌, ◌≤◌, ◌^◌, List, [], Option, Some, None, refl, sym, ap, ◌∙◌, arith, is_some, if◌then◌else◌, Bool, true, false}
+use Rattle.std.proofs.Common.{◌≡◌, ℕ, ◌+◌, ◌<◌, ◌≤◌, ◌^◌, List, [], Option, Some, None, refl, sym, ap, subst, ◌∙◌, arith, is_some, if◌then◌else◌, Bool, true, false}
 use Rattle.std.specs.Prelude.{slice_get, slice_set, option_map, IfSome}
 use Rattle.aq_base.specs.declared.DbId.{DbId}
 use Rattle.aq_base.specs.declared.DbId.TheVariants.{Home, Away}
@@ -14,10 +14,11 @@ use Rattle.queue_rows.specs.declared.history.Step.{Step}
 use Rattle.queue_rows.specs.declared.history.Step.TheVariants.{Call, Park, Told, Flush, End}
 use Rattle.sessions.specs.declared.state.SessionState.{SessionState}
 use Rattle.queue_rows.specs.Sending.{home_of, away_of, ids_copied, taking_ids}
-use Rattle.run_state.specs.CallEffects.{IsCallable, IsLaterThan, called_with, closed_call, done_by, entered_call, holding}
+use Rattle.run_state.specs.CallEffects.{IsCallable, IsLaterThan, called_with, closed_call, done_by, entered_as, entered_call, holding}
 use Rattle.run_state.specs.Sessions.{session_of, unmarked, changed_at, after_call, after_park, after_reply, after_end, gone_in, left_by, OfSession}
 use Rattle.run_state.specs.declared.call_effect.CallEffect.{CallEffect}
 use Rattle.run_state.specs.declared.call_effect.Holdings.{Holdings}
+use Rattle.run_state.specs.declared.call_effect.NewPositions.{NewPositions}
 use Rattle.run_state.proofs.Results.{of_some, some_of}
 use Rattle.run_state.proofs.Changing.{changed_there, got_changed}
 use Rattle.run_state.proofs.Leaving.{standing_is}
@@ -25,7 +26,7 @@ use Rattle.run_state.proofs.ShownSessions.{changed_twice}
 
 -- ---- a session is set
 
-sessions-stepped : (i : ℕ) (w : World) (home away : List Change) (step : Step) → (stepped i w home away step).sessions ≡ w.sessions
+pub sessions-stepped : (i : ℕ) (w : World) (home away : List Change) (step : Step) → (stepped i w home away step).sessions ≡ w.sessions
 unfolding stepped
 sessions-stepped i w home away step = refl
 
@@ -33,9 +34,18 @@ durable_if : (i : ℕ) (w : World) (b : Bool) → (if b then w else all_durable 
 durable_if i w true = refl
 durable_if i w false = sessions-stepped i w [] [] Flush
 
-sessions-flushed : (i : ℕ) (w : World) → (flushed i w).sessions ≡ w.sessions
+pub sessions-flushed : (i : ℕ) (w : World) → (flushed i w).sessions ≡ w.sessions
 unfolding flushed
 sessions-flushed i w = durable_if i w (is_durable w)
+
+-- what a flush is, where all is durable and where it is not
+pub flush_still : (i : ℕ) (w : World) → is_durable w ≡ true → w ≡ flushed i w
+unfolding flushed
+flush_still i w durable = sym (ap (λ b. if b then w else all_durable (stepped i w [] [] Flush)) durable)
+
+pub flush_new : (i : ℕ) (w : World) → is_durable w ≡ false → all_durable (stepped i w [] [] Flush) ≡ flushed i w
+unfolding flushed
+flush_new i w late = sym (ap (λ b. if b then w else all_durable (stepped i w [] [] Flush)) late)
 
 set_session : (f : Session → Session) (w : World) (i : ℕ) (s : Session) → slice_get w.sessions i ≡ Some s → record w { sessions = changed_at i f w.sessions } ≡ with_session i (f s) w
 set_session f w i s there = ap (λ ss. record w { sessions = ss }) (changed_there f w.sessions i s there)
@@ -88,10 +98,10 @@ later_sides Home (Some p) cs other home away none at_h at_a later = (at_h ∙ la
 later_sides Away (Some p) cs other home away none at_h at_a later = (at_h ∙ none, at_a ∙ later)
 
 -- ids are taken by the call alone
-pub next_entered : (db : DbId) (i : ℕ) (w : World) (home away : List Change) (step : Step) (h : Holdings) → (database_at db (entered_call i w home away step h)).next ≡ (database_at db w).next
+pub next_entered : (db at : DbId) (i number : ℕ) (w : World) (call : CallEffect) (gone : List (List ℕ)) → (database_at db (entered_as i number at call gone w)).next ≡ (database_at db w).next
 unfolding stepped
-next_entered Home i w home away step h = refl
-next_entered Away i w home away step h = refl
+next_entered Home at i number w call gone = refl
+next_entered Away at i number w call gone = refl
 
 -- nor by a step
 next_stepped : (db : DbId) (w : World) (actor : ℕ) (home away : List Change) (step : Step) → (database_at db (stepped actor w home away step)).next ≡ (database_at db w).next
@@ -116,14 +126,14 @@ taken_sessions : (db : DbId) (n : ℕ) (w : World) → (taking_ids db n w).sessi
 taken_sessions Home n w = refl
 taken_sessions Away n w = refl
 
--- the session has a number left for its call
-pub early_then : (db : DbId) (n i : ℕ) (w : World) (home away : List Change) (step : Step) (h : Holdings) (s : Session) → slice_get w.sessions i ≡ Some s → s.next + 1 < 2 ^ 32
-    → OfSession i (taking_ids db n (entered_call i w home away step h)) (λ t. t.next + 1 < 2 ^ 32)
-early_then db n i w home away step h s there early =
-    let v = entered_call i w home away step h in
-    let now = ap (λ ss. slice_get ss i) (taken_sessions db n v ∙ ap (changed_at i (holding h)) (sessions-stepped i w home away step))
-    ∙ got_changed (holding h) w.sessions i ∙ ap (option_map (holding h)) there in
-    some_of (λ t. t.next + 1 < 2 ^ 32) (slice_get (taking_ids db n v).sessions i) (holding h s) now early
+early_mapped : (h : Holdings) (o : Option Session) → IfSome o (λ s. s.next + 1 < 2 ^ 32) → IfSome (option_map (holding h) o) (λ s. s.next + 1 < 2 ^ 32)
+early_mapped h None early = tt
+early_mapped h (Some s) early = early
+
+-- the session has a number left for its call, whatever it holds
+pub early_held : (i : ℕ) (h : Holdings) (ss now : List Session) → now ≡ changed_at i (holding h) ss → IfSome (slice_get ss i) (λ s. s.next + 1 < 2 ^ 32) → IfSome (slice_get now i) (λ s. s.next + 1 < 2 ^ 32)
+early_held i h ss now is early =
+    subst (λ o. IfSome o (λ s. s.next + 1 < 2 ^ 32)) (sym (ap (λ them. slice_get them i) is ∙ got_changed (holding h) ss i)) (early_mapped h (slice_get ss i) early)
 
 -- what the sessions are after it
 sessions_called : (db : DbId) (i : ℕ) (s : Session) (call : CallEffect) (gone : List (List ℕ)) (ss : List Session) (home away : ℕ) → slice_get ss i ≡ Some s → gone ≡ gone_in call.commit
@@ -147,16 +157,19 @@ call_at Away i w s call gone there are =
     let v = taking_ids Away (ids_taken call.reply) (stepped i w [] call.commit (Call (s.next + 1) call.reply)) in
     ap (λ ss. record v { sessions = ss }) (sessions_called Away i s call gone w.sessions v.home.made v.away.made there are)
 
-pub call_is : (db : DbId) (i n number : ℕ) (w entered taken : World) (s : Session) (call : CallEffect) (gone : List (List ℕ)) (home away other : List Change) → slice_get w.sessions i ≡ Some s → s.at ≡ db
-    → number ≡ s.next → n ≡ ids_taken call.reply → gone ≡ gone_in call.commit → other ≡ [] → home ≡ home_of db call.commit other → away ≡ away_of db call.commit other
-    → entered ≡ entered_call i w home away (Call (number + 1) call.reply) call.holdings → taken ≡ taking_ids db n entered
-    → closed_call i taken db call.positions gone ≡ called_with i call w s
-call_is db i n number w entered taken s call gone home away other there at number_is ids are none at_h at_a first second =
+-- the ids may be taken last
+ids_last : (db : DbId) (i n : ℕ) (w : World) (positions : NewPositions) (gone : List (List ℕ)) → taking_ids db n (closed_call i w db positions gone) ≡ closed_call i (taking_ids db n w) db positions gone
+ids_last Home i n w positions gone = refl
+ids_last Away i n w positions gone = refl
+
+pub call_is : (db : DbId) (i n number : ℕ) (w entered taken : World) (s : Session) (call : CallEffect) (gone : List (List ℕ)) → slice_get w.sessions i ≡ Some s → s.at ≡ db
+    → number ≡ s.next → n ≡ ids_taken call.reply → gone ≡ gone_in call.commit → entered ≡ entered_as i (number + 1) db call gone w → taken ≡ taking_ids db n entered
+    → taken ≡ called_with i call w s
+call_is db i n number w entered taken s call gone there at number_is ids are first second =
     let step = Call (s.next + 1) call.reply in
-    let into : entered ≡ entered_call i w (home_of db call.commit []) (away_of db call.commit []) step call.holdings =
-    first ∙ ap (λ k. entered_call i w home away (Call (k + 1) call.reply) call.holdings) number_is
-    ∙ ap (λ cs. entered_call i w cs away step call.holdings) (at_h ∙ ap (home_of db call.commit) none)
-    ∙ ap (λ cs. entered_call i w (home_of db call.commit []) cs step call.holdings) (at_a ∙ ap (away_of db call.commit) none) in
-    ap (λ v. closed_call i v db call.positions gone) (second ∙ ap (λ k. taking_ids db k entered) ids ∙ ap (taking_ids db (ids_taken call.reply)) into)
+    let u = entered_call i w (home_of db call.commit []) (away_of db call.commit []) step call.holdings in
+    second ∙ ap (λ k. taking_ids db k entered) ids
+    ∙ ap (taking_ids db (ids_taken call.reply)) (first ∙ ap (λ k. entered_as i (k + 1) db call gone w) number_is)
+    ∙ ids_last db i (ids_taken call.reply) u call.positions gone
     ∙ call_at db i w s call gone there are
     ∙ ap (λ d. standing d call.commit (called_in (taking_ids d (ids_taken call.reply) (stepped i w (at_home d call.commit) (at_away d call.commit) step)) i s (done_by call s))) (sym at)

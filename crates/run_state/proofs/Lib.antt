@@ -3,6 +3,7 @@ pub mod Changing
 pub mod Leaving
 pub mod Marks
 pub mod Places
+pub mod Promises
 pub mod Putting
 pub mod Results
 pub mod ShownSessions

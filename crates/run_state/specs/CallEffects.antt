@@ -7,11 +7,13 @@ use Rattle.queue_rows.specs.Meaning.{Meaning, answers}
 use Rattle.queue_rows.specs.Turns.{ids_taken, called}
 use Rattle.queue_rows.specs.declared.change.Change.{Change}
 use Rattle.queue_rows.specs.declared.history.Step.{Step}
+use Rattle.queue_rows.specs.declared.history.Step.TheVariants.{Call}
 use Rattle.queue_rows.specs.declared.session.Pending.{Pending}
 use Rattle.queue_rows.specs.declared.session.Position.{Position}
 use Rattle.sessions.specs.Effects.{pending_with, marks_with, marks_without, positions_after}
 use Rattle.sessions.specs.declared.state.Effect.{Effect}
 use Rattle.sessions.specs.declared.state.Verdict.TheVariants.{Answer}
+use Rattle.queue_rows.specs.Sending.{home_of, away_of}
 use Rattle.queue_rows.specs.World.{World, database_at, stepped}
 use Rattle.run_state.specs.Sessions.{positions_by, IsFreeIn, changed_at, after_call, left_by}
 use Rattle.run_state.specs.declared.call_effect.CallEffect.{CallEffect}
@@ -68,6 +70,11 @@ entered_call i w home away step h = let v = stepped i w home away step in record
 -- the world once the session of that number has called its next statement and has these positions, and these queues of its database are gone
 abbrev pub closed_call : ℕ → World → DbId → NewPositions → List (List ℕ) → World
 closed_call i w db positions gone = record w { sessions = left_by db gone (changed_at i (after_call positions w.home.made w.away.made) w.sessions) }
+
+-- the world once the session of that number and database has made its call of that number, but for the ids that it takes
+abbrev pub entered_as : ℕ → ℕ → DbId → CallEffect → List (List ℕ) → World → World
+entered_as i number db call gone w =
+    closed_call i (entered_call i w (home_of db call.commit []) (away_of db call.commit []) (Call number call.reply) call.holdings) db call.positions gone
 
 -- the meaning of a statement that has this effect for a session
 abbrev pub call_meant : CallEffect → Session → Meaning

@@ -3,6 +3,7 @@ ghost use Rattle.std.specs.Prelude.{◌≡◌, [], map, IfOk};
 ghost use Rattle.queue_rows.specs.World.{fresh, opened};
 
 use crate::copies::copied_tables;
+use crate::reserved_list::ReservedList;
 use crate::run_database::RunDatabase;
 use crate::session_registry::SessionRegistry;
 use crate::state::{RunState, room_for_entries};
@@ -19,7 +20,7 @@ pub(crate) struct Beginning {
     away: Tables,
     scripts: List<SessionScript>,
     registry: SessionRegistry,
-    entries: List<Entry>,
+    entries: ReservedList<Entry>,
 }
 
 impl Beginning {
@@ -34,7 +35,7 @@ impl Beginning {
         ensures away { IfOk result (λ b. b.away ≡ away.now) }
         ensures scripts { IfOk result (λ b. b.scripts ≡ scripts) }
         ensures sessions { IfOk result (λ b. b.registry.sessions ≡ map fresh scripts) }
-        ensures entries { IfOk result (λ b. b.entries ≡ []) }
+        ensures entries { IfOk result (λ b. b.entries.items ≡ []) }
     {
         let registry = SessionRegistry::fresh(alloc, &scripts)?;
         let entries = room_for_entries(alloc, &scripts)?;
@@ -56,7 +57,7 @@ impl Beginning {
         requires home { self.home ≡ home.tables }
         requires away { self.away ≡ away.tables }
         requires sessions { self.registry.sessions ≡ map fresh self.scripts }
-        requires entries { self.entries ≡ [] }
+        requires entries { self.entries.items ≡ [] }
         ensures { result ≡ opened home.tables away.tables self.scripts }
     {
         let opening = self.home.latest.max(self.away.latest);

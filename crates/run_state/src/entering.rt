@@ -1,41 +1,34 @@
 // An entry with what it commits and what its session then holds: put in and made together, or not at all.
-ghost use Rattle.std.specs.Prelude.{◌≡◌, ◌≤◌, ◌<◌, ◌++◌, ◌∷◌, [], length, List as Sequence, OnOk, OnErr, IfSome};
+ghost use Rattle.std.specs.Prelude.{◌≡◌, ◌≤◌, ◌<◌, ◌++◌, ◌∷◌, [], length, OnOk, OnErr, IfSome};
 ghost use Rattle.queue_rows.specs.Legal.{last_entry};
-ghost use Rattle.queue_rows.specs.declared.history.Entry.{Entry as Row};
 ghost use Rattle.queue_rows.specs.World.{committed};
 ghost use Rattle.run_state.specs.CallEffects.{IsLaterThan, mark_of, pend_of, with_pended, holding};
+ghost use Rattle.run_state.specs.Reserved.{HasPlaces};
 ghost use Rattle.run_state.specs.Sessions.{changed_at, with_pending, IsFreeIn};
 
 use crate::call_effect::Holdings;
 use crate::holdings::{make_room, release, take};
 use crate::run_database::{RunDatabase, commit_both};
+use crate::reserved_list::ReservedList;
 use crate::session_registry::SessionRegistry;
-use payload_records::List;
 use queue_rows::{Entry, Pending};
 use std::alloc::AllocError;
 
 // The history has an entry or more for each statement, so entries stay small beside what they commit: bytes.
 const _: () = prove!(size_of::<Entry>() <= 224);
 
-fn take_back(entries: &mut List<Entry>)
-    ensures { (before : Sequence Row) (entry : Row) → entries.old ≡ before ++ entry ∷ []
-        → entries.new ≡ before }
-{
-    let _entry = entries.pop();
-}
-
 /// Makes what the last entry commits. Each commit has an entry, so their number fits.
 fn commit_last(
     home: &mut RunDatabase,
     away: &mut RunDatabase,
-    entries: &List<Entry>,
+    entries: &ReservedList<Entry>,
     moment: u64,
 ) -> Result<(), AllocError>
-    requires home_few { home.old.made < length entries.now }
-    requires away_few { away.old.made < length entries.now }
-    ensures home { OnOk result (IfSome (last_entry entries.now) (λ e.
+    requires home_few { home.old.made < length entries.now.items }
+    requires away_few { away.old.made < length entries.now.items }
+    ensures home { OnOk result (IfSome (last_entry entries.now.items) (λ e.
         home.new ≡ committed e.home moment home.old)) }
-    ensures away { OnOk result (IfSome (last_entry entries.now) (λ e.
+    ensures away { OnOk result (IfSome (last_entry entries.now.items) (λ e.
         away.new ≡ committed e.away moment away.old)) }
     ensures err_home { OnErr result (home.new ≡ home.old) }
     ensures err_away { OnErr result (away.new ≡ away.old) }
@@ -47,53 +40,57 @@ fn commit_last(
     }
 }
 
-/// Puts an entry at the end, and makes what it commits at its moment. At want of memory all is as before.
+/// Puts an entry at the end, in a place that was kept for it, and makes what it commits at its moment. At want of memory all is as before.
 pub fn put(
     home: &mut RunDatabase,
     away: &mut RunDatabase,
-    entries: &mut List<Entry>,
+    entries: &mut ReservedList<Entry>,
     entry: Entry,
 ) -> Result<(), AllocError>
-    requires home_few { home.old.made ≤ length entries.old }
-    requires away_few { away.old.made ≤ length entries.old }
+    requires home_few { home.old.made ≤ length entries.old.items }
+    requires away_few { away.old.made ≤ length entries.old.items }
+    requires room { HasPlaces 1 entries.old }
     ensures home { OnOk result (home.new ≡ committed entry.home entry.moment home.old) }
     ensures away { OnOk result (away.new ≡ committed entry.away entry.moment away.old) }
-    ensures entries { OnOk result (entries.new ≡ entries.old ++ entry ∷ []) }
+    ensures entries { OnOk result (entries.new.items ≡ entries.old.items ++ entry ∷ []) }
+    ensures capacity { entries.old.capacity ≤ entries.new.capacity }
     ensures err_home { OnErr result (home.new ≡ home.old) }
     ensures err_away { OnErr result (away.new ≡ away.old) }
-    ensures err_entries { OnErr result (entries.new ≡ entries.old) }
+    ensures err_entries { OnErr result (entries.new.items ≡ entries.old.items) }
 {
     let moment = entry.moment;
-    entries.push(entry)?;
+    entries.push(entry);
     match commit_last(home, away, entries, moment) {
         Ok(()) => Ok(()),
         Err(AllocError) => {
-            take_back(entries);
+            entries.drop_last();
             Err(AllocError)
         }
     }
 }
 
-/// Puts an entry at the end, and keeps what its session has done and not committed. At want of memory all is as before.
+/// Puts an entry at the end, in a place that was kept for it, and keeps what its session has done and not committed. At want of memory all is as before.
 fn put_pending(
     registry: &mut SessionRegistry,
-    entries: &mut List<Entry>,
+    entries: &mut ReservedList<Entry>,
     entry: Entry,
     pending: Pending,
 ) -> Result<(), AllocError>
-    ensures entries { OnOk result (entries.new ≡ entries.old ++ entry ∷ []) }
+    requires room { HasPlaces 1 entries.old }
+    ensures entries { OnOk result (entries.new.items ≡ entries.old.items ++ entry ∷ []) }
+    ensures capacity { entries.old.capacity ≤ entries.new.capacity }
     ensures sessions { OnOk result (
         registry.new.sessions ≡ changed_at entry.actor (with_pending pending) registry.old.sessions) }
     ensures locks { registry.new.locks ≡ registry.old.locks }
-    ensures err_entries { OnErr result (entries.new ≡ entries.old) }
+    ensures err_entries { OnErr result (entries.new.items ≡ entries.old.items) }
     ensures err_sessions { OnErr result (registry.new.sessions ≡ registry.old.sessions) }
 {
     let actor = entry.actor;
-    entries.push(entry)?;
+    entries.push(entry);
     match registry.pend(actor, pending) {
         Ok(()) => Ok(()),
         Err(AllocError) => {
-            take_back(entries);
+            entries.drop_last();
             Err(AllocError)
         }
     }
@@ -104,22 +101,24 @@ fn keep(
     registry: &mut SessionRegistry,
     home: &mut RunDatabase,
     away: &mut RunDatabase,
-    entries: &mut List<Entry>,
+    entries: &mut ReservedList<Entry>,
     entry: Entry,
     pending: Option<Pending>,
 ) -> Result<(), AllocError>
-    requires home_few { home.old.made ≤ length entries.old }
-    requires away_few { away.old.made ≤ length entries.old }
+    requires home_few { home.old.made ≤ length entries.old.items }
+    requires away_few { away.old.made ≤ length entries.old.items }
+    requires room { HasPlaces 1 entries.old }
     requires later { IsLaterThan pending entry.home entry.away }
     ensures home { OnOk result (home.new ≡ committed entry.home entry.moment home.old) }
     ensures away { OnOk result (away.new ≡ committed entry.away entry.moment away.old) }
-    ensures entries { OnOk result (entries.new ≡ entries.old ++ entry ∷ []) }
+    ensures entries { OnOk result (entries.new.items ≡ entries.old.items ++ entry ∷ []) }
+    ensures capacity { entries.old.capacity ≤ entries.new.capacity }
     ensures sessions { OnOk result (
         registry.new.sessions ≡ changed_at entry.actor (with_pended pending) registry.old.sessions) }
     ensures locks { registry.new.locks ≡ registry.old.locks }
     ensures err_home { OnErr result (home.new ≡ home.old) }
     ensures err_away { OnErr result (away.new ≡ away.old) }
-    ensures err_entries { OnErr result (entries.new ≡ entries.old) }
+    ensures err_entries { OnErr result (entries.new.items ≡ entries.old.items) }
     ensures err_sessions { OnErr result (registry.new.sessions ≡ registry.old.sessions) }
 {
     match pending {
@@ -134,22 +133,24 @@ pub fn put_call(
     registry: &mut SessionRegistry,
     home: &mut RunDatabase,
     away: &mut RunDatabase,
-    entries: &mut List<Entry>,
+    entries: &mut ReservedList<Entry>,
     entry: Entry,
     holdings: Holdings,
 ) -> Result<(), AllocError>
-    requires home_few { home.old.made ≤ length entries.old }
-    requires away_few { away.old.made ≤ length entries.old }
+    requires home_few { home.old.made ≤ length entries.old.items }
+    requires away_few { away.old.made ≤ length entries.old.items }
+    requires room { HasPlaces 1 entries.old }
     requires later { IsLaterThan (pend_of holdings) entry.home entry.away }
     requires free { IfSome (mark_of holdings) (λ m. IsFreeIn entry.actor m registry.old.sessions) }
     ensures home { OnOk result (home.new ≡ committed entry.home entry.moment home.old) }
     ensures away { OnOk result (away.new ≡ committed entry.away entry.moment away.old) }
-    ensures entries { OnOk result (entries.new ≡ entries.old ++ entry ∷ []) }
+    ensures entries { OnOk result (entries.new.items ≡ entries.old.items ++ entry ∷ []) }
+    ensures capacity { entries.old.capacity ≤ entries.new.capacity }
     ensures sessions { OnOk result (
         registry.new.sessions ≡ changed_at entry.actor (holding holdings) registry.old.sessions) }
     ensures err_home { OnErr result (home.new ≡ home.old) }
     ensures err_away { OnErr result (away.new ≡ away.old) }
-    ensures err_entries { OnErr result (entries.new ≡ entries.old) }
+    ensures err_entries { OnErr result (entries.new.items ≡ entries.old.items) }
     ensures err_sessions { OnErr result (registry.new.sessions ≡ registry.old.sessions) }
 {
     let actor = entry.actor;

@@ -8,6 +8,7 @@ mod entering;
 mod holdings;
 mod locks;
 mod positions;
+mod reserved_list;
 mod run_database;
 mod session_registry;
 mod session_states;
@@ -17,6 +18,7 @@ mod transit;
 
 pub use call_effect::{CallEffect, Holdings, NewPositions};
 pub use positions::moved;
+pub use reserved_list::ReservedList;
 pub use run_database::RunDatabase;
 pub use state::RunState;
 pub use transit::{Stage, Transit};

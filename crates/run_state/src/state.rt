@@ -11,6 +11,7 @@ ghost use Rattle.run_state.specs.Sendings.{transit_of};
 ghost use Rattle.run_state.specs.Sessions.{session_of, unmarked};
 
 use crate::beginning::Beginning;
+use crate::reserved_list::ReservedList;
 use crate::run_database::RunDatabase;
 use crate::session_registry::SessionRegistry;
 use crate::transit::Transit;
@@ -30,20 +31,23 @@ const ENTRIES_A_STATEMENT: usize = 3;
 pub(crate) fn room_for_entries(
     alloc: Global,
     scripts: &List<SessionScript>,
-) -> Result<List<Entry>, AllocError>
-    ensures { IfOk result (λ entries. entries ≡ []) }
+) -> Result<ReservedList<Entry>, AllocError>
+    ensures { IfOk result (λ entries. entries.items ≡ []) }
 {
     let mut count: usize = 0;
     for script in scripts {
         let statements = script.statements.len();
         count = count.saturating_add(statements.saturating_mul(ENTRIES_A_STATEMENT));
     }
-    Ok(List::from_vec(Vec::with_capacity(alloc, count.saturating_add(scripts.len()))?))
+    ReservedList::with_places(alloc, count.saturating_add(scripts.len()))
 }
 
 /// The state of a run: the two databases, the sessions with what they hold, the slot that is being sent, the moment, and the history so
 /// far. Contracts see the world of the definitions. Each step of a run is a call that does just that to it; which step may be made,
 /// those know who make it.
+///
+/// There is always room for the entries that are promised: for a flush where a commit is not durable, and for a telling of each session
+/// that was not told yet. So each other step takes memory for them before it changes anything, and these two take none.
 #[derive(Drop)]
 pub struct RunState {
     pub(crate) alloc: Global,
@@ -55,7 +59,7 @@ pub struct RunState {
     pub(crate) opening: u64,
     pub(crate) moment: u64,
     pub(crate) readings: u64,
-    pub(crate) entries: List<Entry>,
+    pub(crate) entries: ReservedList<Entry>,
 }
 
 impl Model for RunState {
@@ -65,6 +69,8 @@ impl Model for RunState {
     ghost use Rattle.queue_rows.specs.World.{uncounted};
     ghost use Rattle.queue_rows.specs.World.{World};
     ghost use Rattle.run_state.specs.Entries.{HasNoCalls, AreCounted};
+    ghost use Rattle.run_state.specs.Promises.{promised_by};
+    ghost use Rattle.run_state.specs.Reserved.{HasPlaces};
     ghost use Rattle.run_state.specs.Sendings.{transit_of};
 
     ghost Value = { World };
@@ -80,12 +86,13 @@ impl Model for RunState {
       opening = w.opening;
       moment = w.moment;
       readings = w.readings;
-      entries = map uncounted w.entries;
+      entries = map uncounted w.entries.items;
     } };
 
     ghost invariant = { λ w. record {
-      calls : All HasNoCalls w.entries;
-      counted : AreCounted w.home.made w.away.made w.entries;
+      calls : All HasNoCalls w.entries.items;
+      counted : AreCounted w.home.made w.away.made w.entries.items;
+      room : HasPlaces (promised_by w.home w.away w.registry.sessions) w.entries;
     } };
 }
 
@@ -259,7 +266,7 @@ impl RunState {
             away: self.away.finish(),
             opening: self.opening,
             scripts: self.scripts,
-            entries: self.entries,
+            entries: self.entries.into_list(),
         }
     }
 }

@@ -1,18 +1,17 @@
-// The steps of a run. Each takes all its memory before anything is changed.
-ghost use Rattle.std.specs.Prelude.{◌≡◌, ◌<◌, ◌+◌, ◌^◌, ◌++◌, [], ℕ, IfOk, OnOk, OnErr, option_map, position};
+// The steps of a run. Each takes all its memory before anything is changed; a flush and a telling take none.
+ghost use Rattle.std.specs.Prelude.{◌≡◌, ◌<◌, ◌+◌, ◌^◌, ◌++◌, [], ℕ, IfOk, OnOk, OnErr, IsSome, option_map, position};
 ghost use Rattle.std.specs.List.{position_or_len};
 ghost use Rattle.propagation.specs.Outcomes.{meant};
 ghost use Rattle.queue_rows.specs.Propagating.{is_pair};
 ghost use Rattle.queue_rows.specs.Turns.{ids_taken, parked, ended, flushed, told};
 ghost use Rattle.queue_rows.specs.declared.history.Step.TheVariants.{Timer};
-ghost use Rattle.queue_rows.specs.World.{other_db, database_at, stepped};
+ghost use Rattle.queue_rows.specs.World.{other_db, database_at, entry_of, stepped};
 ghost use Rattle.queue_rows.specs.Sending.{offers, arrives, confirms, sent, taking_ids, ids_copied, pair_number, home_of, away_of, transit_after};
-ghost use Rattle.run_state.specs.CallEffects.{IsCallable, IsFreeOf, IsLaterThan, called_with, closed_call, entered_call, pend_of};
-ghost use Rattle.run_state.specs.Entries.{IsUntold};
+ghost use Rattle.run_state.specs.CallEffects.{IsCallable, IsFreeOf, IsLater, called_with, entered_as};
 ghost use Rattle.run_state.specs.Sendings.{transit_of};
 ghost use Rattle.run_state.specs.Sessions.{OfSession, gone_by, gone_in};
 
-use crate::call_effect::{CallEffect, Holdings, NewPositions};
+use crate::call_effect::CallEffect;
 use crate::entering::{put, put_call};
 use crate::state::RunState;
 use crate::transit::{Stage, Transit};
@@ -107,6 +106,29 @@ fn pair_place(there: &Tables, at: &SlotRef) -> usize
 }
 
 impl RunState {
+    /// An entry that is made now.
+    fn entry(&self, actor: u32, home: List<Change>, away: List<Change>, step: Step) -> Entry
+        ensures { result ≡ entry_of actor self.now home away step }
+    {
+        Entry {
+            actor,
+            moment: self.moment,
+            readings: self.readings,
+            home_calls: 0,
+            away_calls: 0,
+            home,
+            away,
+            step,
+        }
+    }
+
+    /// An entry that is made now and commits nothing.
+    fn quiet_entry(&self, actor: u32, step: Step) -> Entry
+        ensures { result ≡ entry_of actor self.now [] [] step }
+    {
+        self.entry(actor, List::new(self.alloc), List::new(self.alloc), step)
+    }
+
     /// Puts an entry at the end, and makes what it commits. At want of memory all is as before.
     fn enter(
         &mut self,
@@ -118,16 +140,8 @@ impl RunState {
         ensures ok { OnOk result (self.new ≡ stepped actor self.old home away step) }
         ensures err { OnErr result (self.new ≡ self.old) }
     {
-        let entry = Entry {
-            actor,
-            moment: self.moment,
-            readings: self.readings,
-            home_calls: 0,
-            away_calls: 0,
-            home,
-            away,
-            step,
-        };
+        let entry = self.entry(actor, home, away, step);
+        self.entries.reserve(self.registry.len())?;
         put(&mut self.home, &mut self.away, &mut self.entries, entry)
     }
 
@@ -150,30 +164,32 @@ impl RunState {
         }
     }
 
-    /// The entry of a call, and what its session holds then. At want of memory all is as before.
+    /// The session of that number makes its call of that number, but for the ids that it takes: its entry stands, it has called its next
+    /// statement and waits to be told, and no session of its database stands in the queues that have gone. At want of memory all is as
+    /// before.
     fn enter_call(
         &mut self,
         at: u32,
-        commit: (List<Change>, List<Change>),
-        step: Step,
-        holdings: Holdings,
+        number: u32,
+        db: DbId,
+        effect: CallEffect,
+        gone: &List<Name>,
     ) -> Result<(), AllocError>
-        requires later { IsLaterThan (pend_of holdings) commit.0 commit.1 }
-        requires free { IsFreeOf self.old at holdings }
-        ensures ok { OnOk result (self.new ≡ entered_call at self.old commit.0 commit.1 step holdings) }
+        requires early { OfSession at self.old (λ s. s.next + 1 < 2 ^ 32) }
+        requires later { IsLater effect }
+        requires free { IsFreeOf self.old at effect.holdings }
+        ensures ok { OnOk result (self.new ≡ entered_as at number db effect gone.now self.old) }
         ensures err { OnErr result (self.new ≡ self.old) }
     {
-        let (home, away) = commit;
-        let entry = Entry {
-            actor: at,
-            moment: self.moment,
-            readings: self.readings,
-            home_calls: 0,
-            away_calls: 0,
-            home,
-            away,
-            step,
-        };
+        let CallEffect {
+            reply,
+            commit,
+            holdings,
+            positions,
+        } = effect;
+        let (home, away) = sides(db, commit, List::new(self.alloc));
+        let entry = self.entry(at, home, away, Step::Call { number, reply });
+        self.entries.reserve(self.registry.len())?;
         put_call(
             &mut self.registry,
             &mut self.home,
@@ -181,18 +197,11 @@ impl RunState {
             &mut self.entries,
             entry,
             holdings,
-        )
-    }
-
-    /// The session of that number has called its next statement, has these positions, and waits to be told; and no session of its
-    /// database stands in the queues that have gone.
-    fn close_call(&mut self, at: u32, db: DbId, positions: NewPositions, gone: &List<Name>)
-        requires { OfSession at self.old (λ s. s.next + 1 < 2 ^ 32) }
-        ensures { self.new ≡ closed_call at self.old db positions gone.now }
-    {
+        )?;
         let (home, away) = (self.home.made(), self.away.made());
         self.registry.call(at, positions, home, away);
         self.registry.leave(db, gone);
+        Ok(())
     }
 
     /// The session of that number makes this call. At want of memory all is as before.
@@ -205,18 +214,10 @@ impl RunState {
             return Ok(());
         };
         let (db, number) = (session.at, session.next + 1);
-        let CallEffect {
-            reply,
-            commit,
-            holdings,
-            positions,
-        } = effect;
-        let ids = ids_taken(&reply);
-        let gone = gone_queues(&commit)?;
-        let commit = sides(db, commit, List::new(self.alloc));
-        self.enter_call(at, commit, Step::Call { number, reply }, holdings)?;
+        let ids = ids_taken(&effect.reply);
+        let gone = gone_queues(&effect.commit)?;
+        self.enter_call(at, number, db, effect, &gone)?;
         self.take_ids(db, ids);
-        self.close_call(at, db, positions, &gone);
         Ok(())
     }
 
@@ -248,31 +249,32 @@ impl RunState {
         Ok(())
     }
 
-    /// Makes each commit durable, where one is not. At want of memory all is as before.
-    #[tactic(auto, unfolding(queue_rows::specs::Turns::flushed))]
-    pub fn flush(&mut self, actor: u32) -> Result<(), AllocError>
-        ensures ok { OnOk result (self.new ≡ flushed actor self.old) }
-        ensures err { OnErr result (self.new ≡ self.old) }
+    /// Makes each commit durable, where one is not. It takes no memory.
+    pub fn flush(&mut self, actor: u32)
+        ensures { self.new ≡ flushed actor self.old }
     {
         if self.is_durable() {
-            return Ok(());
+            return;
         }
-        self.note(actor, Step::Flush)?;
+        let entry = self.quiet_entry(actor, Step::Flush);
+        self.entries.push(entry);
         self.home.make_durable();
         self.away.make_durable();
-        Ok(())
     }
 
-    /// Tells the session of that number the reply to its statement, once every commit is durable. At want of memory all is as before,
-    /// but that every commit may be durable.
-    pub fn tell(&mut self, at: u32, number: u32) -> Result<(), AllocError>
-        ensures ok { OnOk result (OfSession at self.old (λ s. self.new ≡ told at s number self.old)) }
-        ensures err { OnErr result (IsUntold at self.old self.new) }
+    /// Tells the session of that number, which was not told yet, the reply to its statement, once every commit is durable. It takes no
+    /// memory.
+    pub fn tell(&mut self, at: u32, number: u32)
+        requires { OfSession at self.old (λ s. IsSome s.untold) }
+        ensures { OfSession at self.old (λ s. self.new ≡ told at s number self.old) }
     {
-        self.flush(at)?;
-        self.note(at, Step::Told { number })?;
+        let Some(_) = self.registry.get(at) else {
+            return;
+        };
+        self.flush(at);
+        let entry = self.quiet_entry(at, Step::Told { number });
+        self.entries.push(entry);
         self.registry.tell(at);
-        Ok(())
     }
 
     /// Commits the work that is due at home and at away. At want of memory all is as before.

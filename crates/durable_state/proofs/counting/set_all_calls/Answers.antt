@@ -11,7 +11,7 @@ loop-at-init c = sym (counted_none c.args.entries.now)
 pub loop-at-preserved : goal.loop-at-preserved
 loop-at-preserved c =
     let at = c.loop-at.at in
-    let calls = c.args.calls.now in
+    let calls = c.args.calls.now.items in
     elim c.match-get.branch [
       | in-Some w ↦
           let got : slice_get calls at ≡ Some w.in-Some.numbers.now = sym c.get.ensures ∙ ap option_copied w.in-Some.is in

@@ -1,4 +1,4 @@
-use Rattle.std.proofs.Common.{◌≡◌, List, ap, ◌∙◌, subst}
+use Rattle.std.proofs.Common.{refl, ◌≡◌, List, ap, ◌∙◌, subst}
 use Rattle.queue_rows.specs.Propagating.{Arriving}
 use Rattle.queue_rows.specs.declared.change.Change.{Change}
 use Rattle.queue_rows.specs.Sending.{home_of, away_of}
@@ -25,9 +25,10 @@ invariant_of-self-2 g c =
     ap (λ (l : List Change). home_of db l a.there) first ∙ ap (home_of db (home_of db c.in_ok-home.field-0.home c.in_ok-home.field-0.away)) second ∙ first_again db c.in_ok-home.field-0.home c.in_ok-home.field-0.away ∙ home in
     let at_away : away_of db a.origin a.there ≡ c.sides-home.result.1 =
     ap (λ (l : List Change). away_of db l a.there) first ∙ ap (away_of db (home_of db c.in_ok-home.field-0.home c.in_ok-home.field-0.away)) second ∙ second_again db c.in_ok-home.field-0.home c.in_ok-home.field-0.away ∙ away in
-    (follows g.D.Disk.seen g.D.Disk.is_image g.D.Disk.calls g.D.Disk.faults c.arrive-made.result c.moment.result c.sides-home.result.0 c.sides-home.result.1 c.in_ok-home.field-0.queued w v c.self.inside.logs c.enter.new.self c.settle.new.self
-    c.self.invariant c.moment.ensures queued c.in_ok-home.ensures.ok c.settle.ensures.ok c.settle.ensures.err
-    (arrived_adds c.arrive-made.result c.args.actor w v c.args.at a c.sides-home.result.0 c.sides-home.result.1 at_home at_away c.arrive-made.ensures.ok) c.arrive-made.ensures.err).few
+    let f = follows g.D.Disk.seen g.D.Disk.is_image g.D.Disk.calls g.D.Disk.faults c.arrive-made.result w.moment c.sides-home.result.0 c.sides-home.result.1 c.in_ok-home.field-0.queued w v c.self.inside.logs c.enter.new.self c.settle.new.self
+    c.self.invariant.few refl queued c.in_ok-home.ensures.ok c.in_ok-home.ensures.room c.settle.ensures.ok c.settle.ensures.err
+    (arrived_adds c.arrive-made.result c.args.actor w v c.args.at a c.sides-home.result.0 c.sides-home.result.1 at_home at_away c.arrive-made.ensures.ok) c.arrive-made.ensures.err in
+    record { few = f.few; room = f.room }
 
 pub returns-clause-disks : goal.returns-clause-disks
 returns-clause-disks g c =
@@ -45,8 +46,8 @@ returns-clause-disks g c =
     let at_away : away_of db a.origin a.there ≡ c.sides-home.result.1 =
     ap (λ (l : List Change). away_of db l a.there) first ∙ ap (away_of db (home_of db c.in_ok-home.field-0.home c.in_ok-home.field-0.away)) second ∙ second_again db c.in_ok-home.field-0.home c.in_ok-home.field-0.away ∙ away in
     subst (λ (o : Held _). Goes g.D.Disk.seen g.D.Disk.is_image g.D.Disk.calls g.D.Disk.faults o (held_of v c.settle.new.self)) c.self.view_is
-    (follows g.D.Disk.seen g.D.Disk.is_image g.D.Disk.calls g.D.Disk.faults c.arrive-made.result c.moment.result c.sides-home.result.0 c.sides-home.result.1 c.in_ok-home.field-0.queued w v c.self.inside.logs c.enter.new.self c.settle.new.self
-    c.self.invariant c.moment.ensures queued c.in_ok-home.ensures.ok c.settle.ensures.ok c.settle.ensures.err
+    (follows g.D.Disk.seen g.D.Disk.is_image g.D.Disk.calls g.D.Disk.faults c.arrive-made.result w.moment c.sides-home.result.0 c.sides-home.result.1 c.in_ok-home.field-0.queued w v c.self.inside.logs c.enter.new.self c.settle.new.self
+    c.self.invariant.few refl queued c.in_ok-home.ensures.ok c.in_ok-home.ensures.room c.settle.ensures.ok c.settle.ensures.err
     (arrived_adds c.arrive-made.result c.args.actor w v c.args.at a c.sides-home.result.0 c.sides-home.result.1 at_home at_away c.arrive-made.ensures.ok) c.arrive-made.ensures.err).goes
 
 pub returns-clause-fine : goal.returns-clause-fine
@@ -65,6 +66,6 @@ returns-clause-fine g c failed =
     let at_away : away_of db a.origin a.there ≡ c.sides-home.result.1 =
     ap (λ (l : List Change). away_of db l a.there) first ∙ ap (away_of db (home_of db c.in_ok-home.field-0.home c.in_ok-home.field-0.away)) second ∙ second_again db c.in_ok-home.field-0.home c.in_ok-home.field-0.away ∙ away in
     subst (λ (o : Held _). HasFailed o) c.self.view_is
-    ((follows g.D.Disk.seen g.D.Disk.is_image g.D.Disk.calls g.D.Disk.faults c.arrive-made.result c.moment.result c.sides-home.result.0 c.sides-home.result.1 c.in_ok-home.field-0.queued w v c.self.inside.logs c.enter.new.self c.settle.new.self
-    c.self.invariant c.moment.ensures queued c.in_ok-home.ensures.ok c.settle.ensures.ok c.settle.ensures.err
+    ((follows g.D.Disk.seen g.D.Disk.is_image g.D.Disk.calls g.D.Disk.faults c.arrive-made.result w.moment c.sides-home.result.0 c.sides-home.result.1 c.in_ok-home.field-0.queued w v c.self.inside.logs c.enter.new.self c.settle.new.self
+    c.self.invariant.few refl queued c.in_ok-home.ensures.ok c.in_ok-home.ensures.room c.settle.ensures.ok c.settle.ensures.err
     (arrived_adds c.arrive-made.result c.args.actor w v c.args.at a c.sides-home.result.0 c.sides-home.result.1 at_home at_away c.arrive-made.ensures.ok) c.arrive-made.ensures.err).fine failed)

@@ -1,4 +1,4 @@
-use Rattle.std.proofs.Common.{◌≡◌, ap, subst}
+use Rattle.std.proofs.Common.{refl, ◌≡◌, ap, subst}
 use Rattle.queue_rows.specs.World.{at_home, at_away}
 use Rattle.durable_state.specs.declared.run_logs.EnteredAt.{EnteredAt}
 use Rattle.durable_state.specs.Going.{Goes}
@@ -16,9 +16,10 @@ invariant_of-self-2 g c =
     let cs = c.args.changes in
     let queued : c.in_ok-changes.field-0.queued ≡ queued_of (at_home db cs) (at_away db cs) = ap (λ (e : EnteredAt). e.queued) c.in_ok-changes.ensures.same in
     let changes : c.in_ok-changes.field-0.changes ≡ cs = ap (λ (e : EnteredAt). e.changes) c.in_ok-changes.ensures.same in
-    (follows g.D.Disk.seen g.D.Disk.is_image g.D.Disk.calls g.D.Disk.faults c.confirm-made.result c.moment.result (at_home db cs) (at_away db cs) c.in_ok-changes.field-0.queued w v c.self.inside.logs c.enter_at.new.self c.settle.new.self
-    c.self.invariant c.moment.ensures queued c.in_ok-changes.ensures.ok c.settle.ensures.ok c.settle.ensures.err
-    (confirmed_adds c.confirm-made.result c.args.actor w v c.args.at cs c.in_ok-changes.field-0.changes changes c.confirm-made.ensures.ok) c.confirm-made.ensures.err).few
+    let f = follows g.D.Disk.seen g.D.Disk.is_image g.D.Disk.calls g.D.Disk.faults c.confirm-made.result w.moment (at_home db cs) (at_away db cs) c.in_ok-changes.field-0.queued w v c.self.inside.logs c.enter_at.new.self c.settle.new.self
+    c.self.invariant.few refl queued c.in_ok-changes.ensures.ok c.in_ok-changes.ensures.room c.settle.ensures.ok c.settle.ensures.err
+    (confirmed_adds c.confirm-made.result c.args.actor w v c.args.at cs c.in_ok-changes.field-0.changes changes c.confirm-made.ensures.ok) c.confirm-made.ensures.err in
+    record { few = f.few; room = f.room }
 
 pub returns-clause-disks : goal.returns-clause-disks
 returns-clause-disks g c =
@@ -29,6 +30,6 @@ returns-clause-disks g c =
     let queued : c.in_ok-changes.field-0.queued ≡ queued_of (at_home db cs) (at_away db cs) = ap (λ (e : EnteredAt). e.queued) c.in_ok-changes.ensures.same in
     let changes : c.in_ok-changes.field-0.changes ≡ cs = ap (λ (e : EnteredAt). e.changes) c.in_ok-changes.ensures.same in
     subst (λ (o : Held _). Goes g.D.Disk.seen g.D.Disk.is_image g.D.Disk.calls g.D.Disk.faults o (held_of v c.settle.new.self)) c.self.view_is
-    (follows g.D.Disk.seen g.D.Disk.is_image g.D.Disk.calls g.D.Disk.faults c.confirm-made.result c.moment.result (at_home db cs) (at_away db cs) c.in_ok-changes.field-0.queued w v c.self.inside.logs c.enter_at.new.self c.settle.new.self
-    c.self.invariant c.moment.ensures queued c.in_ok-changes.ensures.ok c.settle.ensures.ok c.settle.ensures.err
+    (follows g.D.Disk.seen g.D.Disk.is_image g.D.Disk.calls g.D.Disk.faults c.confirm-made.result w.moment (at_home db cs) (at_away db cs) c.in_ok-changes.field-0.queued w v c.self.inside.logs c.enter_at.new.self c.settle.new.self
+    c.self.invariant.few refl queued c.in_ok-changes.ensures.ok c.in_ok-changes.ensures.room c.settle.ensures.ok c.settle.ensures.err
     (confirmed_adds c.confirm-made.result c.args.actor w v c.args.at cs c.in_ok-changes.field-0.changes changes c.confirm-made.ensures.ok) c.confirm-made.ensures.err).goes

@@ -1,4 +1,4 @@
-use Rattle.std.proofs.Common.{◌≡◌, [], Some, sym, ap, ◌∙◌, subst}
+use Rattle.std.proofs.Common.{refl, ◌≡◌, [], Some, sym, ap, ◌∙◌, subst}
 use Rattle.std.specs.Prelude.{option_copied, option_map, slice_get}
 use Rattle.run_state.specs.Sessions.{session_of, unmarked}
 use Rattle.durable_state.specs.Going.{Goes}
@@ -13,9 +13,10 @@ invariant_of-self-2 g c =
     let is : option_map session_of (Some c.in-Some.field-0.now) ≡ option_map unmarked (slice_get c.self.inside.state.sessions c.args.at) = sym (ap (λ o. option_map session_of (option_copied o)) c.in-Some.is) ∙ c.session.ensures in
     let w = c.self.inside.state in
     let v = c.end-made.new.self in
-    (follows g.D.Disk.seen g.D.Disk.is_image g.D.Disk.calls g.D.Disk.faults c.end-made.result c.moment.result [] [] c.in_ok-queued.queued w v c.self.inside.logs c.note.new.self c.settle.new.self
-    c.self.invariant c.moment.ensures c.in_ok-queued.ensures.same c.in_ok-queued.ensures.ok c.settle.ensures.ok c.settle.ensures.err
-    (ended_adds c.end-made.result c.args.at w v c.in-Some.field-0.now is c.end-made.ensures.ok) c.end-made.ensures.err).few
+    let f = follows g.D.Disk.seen g.D.Disk.is_image g.D.Disk.calls g.D.Disk.faults c.end-made.result w.moment [] [] c.in_ok-queued.queued w v c.self.inside.logs c.note.new.self c.settle.new.self
+    c.self.invariant.few refl c.in_ok-queued.ensures.same c.in_ok-queued.ensures.ok c.in_ok-queued.ensures.room c.settle.ensures.ok c.settle.ensures.err
+    (ended_adds c.end-made.result c.args.at w v c.in-Some.field-0.now is c.end-made.ensures.ok) c.end-made.ensures.err in
+    record { few = f.few; room = f.room }
 
 pub returns-clause-disks : goal.returns-clause-disks
 returns-clause-disks g c =
@@ -23,6 +24,6 @@ returns-clause-disks g c =
     let w = c.self.inside.state in
     let v = c.end-made.new.self in
     subst (λ (o : Held _). Goes g.D.Disk.seen g.D.Disk.is_image g.D.Disk.calls g.D.Disk.faults o (held_of v c.settle.new.self)) c.self.view_is
-    (follows g.D.Disk.seen g.D.Disk.is_image g.D.Disk.calls g.D.Disk.faults c.end-made.result c.moment.result [] [] c.in_ok-queued.queued w v c.self.inside.logs c.note.new.self c.settle.new.self
-    c.self.invariant c.moment.ensures c.in_ok-queued.ensures.same c.in_ok-queued.ensures.ok c.settle.ensures.ok c.settle.ensures.err
+    (follows g.D.Disk.seen g.D.Disk.is_image g.D.Disk.calls g.D.Disk.faults c.end-made.result w.moment [] [] c.in_ok-queued.queued w v c.self.inside.logs c.note.new.self c.settle.new.self
+    c.self.invariant.few refl c.in_ok-queued.ensures.same c.in_ok-queued.ensures.ok c.in_ok-queued.ensures.room c.settle.ensures.ok c.settle.ensures.err
     (ended_adds c.end-made.result c.args.at w v c.in-Some.field-0.now is c.end-made.ensures.ok) c.end-made.ensures.err).goes

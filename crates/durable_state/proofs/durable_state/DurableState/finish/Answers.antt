@@ -9,10 +9,10 @@ use Rattle.durable_state.proofs.durable_state.DurableState.finish.Goals as goal
 pub returns-clause-entries : goal.returns-clause-entries
 returns-clause-entries g c =
     let own = sym (uncounted_all c.finish-history.result.entries c.finish-history.ensures.calls) ∙ c.finish-history.ensures.entries in
-    c.set_all_calls.ensures ∙ ap (λ (es : List Entry). counted es c.self.inside.logs.calls) own ∙ ap (λ (o : Held _). o.entries) c.self.view_is
+    c.set_all_calls.ensures ∙ ap (λ (es : List Entry). counted es c.self.inside.logs.calls.items) own ∙ ap (λ (o : Held _). o.entries) c.self.view_is
 
 pub returns-clause-uncounted : goal.returns-clause-uncounted
 returns-clause-uncounted g c =
     ap (map uncounted) c.set_all_calls.ensures
-    ∙ uncounted_counted c.finish-history.result.entries c.self.inside.logs.calls
+    ∙ uncounted_counted c.finish-history.result.entries c.self.inside.logs.calls.items
     ∙ c.finish-history.ensures.entries ∙ ap (λ (o : Held _). o.world.entries) c.self.view_is

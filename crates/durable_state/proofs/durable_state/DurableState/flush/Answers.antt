@@ -1,12 +1,11 @@
-use Rattle.std.proofs.Common.{◌≡◌, [], true, false, sym, ap, ◌∙◌, subst}
+use Rattle.std.proofs.Common.{◌≡◌, ◌≤◌, ◌+◌, length, arith, [], true, false, sym, ap, ◌∙◌, subst}
 use Rattle.queue_rows.specs.Turns.{flushed, is_durable}
 use Rattle.queue_rows.specs.World.{World}
+use Rattle.run_state.specs.Promises.{promised}
+use Rattle.run_state.proofs.Promises.{flush_takes}
 use Rattle.durable_state.specs.Going.{Goes}
 use Rattle.durable_state.specs.Held.{Held}
-use Rattle.durable_state.specs.Queueing.{with_numbers}
-use Rattle.durable_state.specs.declared.run_logs.RunLogs.{RunLogs}
-use Rattle.durable_state.proofs.Lists.{when_ok, when_err}
-use Rattle.durable_state.proofs.Stepping.{calls_go, flush_counted, flush_goes, held_of, taken_numbers}
+use Rattle.durable_state.proofs.Stepping.{calls_go, flush_counted, flush_goes, flush_room, held_of}
 use Rattle.durable_state.proofs.Worlds.{Adds, adds_flush, flushed_same}
 use Rattle.durable_state.proofs.durable_state.DurableState.flush.Goals as goal
 
@@ -21,52 +20,49 @@ returns-in_err-append-clause-disks g c =
     let w = c.self.inside.state in
     let m = c.append.new.self in
     subst (λ (o : Held _). Goes g.D.Disk.seen g.D.Disk.is_image g.D.Disk.calls g.D.Disk.faults o (held_of w m)) c.self.view_is
-    (calls_go g.D.Disk.seen g.D.Disk.is_image g.D.Disk.calls g.D.Disk.faults w c.self.inside.logs m c.append.ensures.calls c.append.ensures.home_writes c.append.ensures.away_writes)
+    (calls_go g.D.Disk.seen g.D.Disk.is_image g.D.Disk.calls g.D.Disk.faults w c.self.inside.logs m (ap (λ l. l.items) c.append.ensures.calls) c.append.ensures.home_writes c.append.ensures.away_writes)
 
-pub returns-in_err-count-clause-disks : goal.returns-in_err-count-clause-disks
-returns-in_err-count-clause-disks g c =
+pub count-requires : goal.count-requires
+count-requires g c =
     let w = c.self.inside.state in
+    let v = c.flush.new.self in
+    let l = c.self.inside.logs in
     let m = c.append.new.self in
-    subst (λ (o : Held _). Goes g.D.Disk.seen g.D.Disk.is_image g.D.Disk.calls g.D.Disk.faults o (held_of w c.count.new.self)) c.self.view_is
-    (subst (λ (o : RunLogs _). Goes g.D.Disk.seen g.D.Disk.is_image g.D.Disk.calls g.D.Disk.faults (held_of w c.self.inside.logs) (held_of w o)) (sym c.in_err-count.ensures.err)
-    (calls_go g.D.Disk.seen g.D.Disk.is_image g.D.Disk.calls g.D.Disk.faults w c.self.inside.logs m c.append.ensures.calls c.append.ensures.home_writes c.append.ensures.away_writes))
-
-pub returns-in_err-made-clause-disks : goal.returns-in_err-made-clause-disks
-returns-in_err-made-clause-disks g c =
-    let w = c.self.inside.state in
-    let v = c.flush-made.new.self in
-    let m = c.append.new.self in
-    let n = c.settle.new.self in
-    let same : v ≡ w = when_err c.flush-made.result c.in_err-made.field-0.0 c.in_err-made.was c.flush-made.ensures.err in
-    let back : n ≡ m = when_err c.flush-made.result c.in_err-made.field-0.0 c.in_err-made.was c.settle.ensures.err ∙ taken_numbers g.D.Disk.seen g.D.Disk.is_image g.D.Disk.calls g.D.Disk.faults m c.count.new.self c.in_ok-count.ensures.ok in
-    subst (λ (o : Held _). Goes g.D.Disk.seen g.D.Disk.is_image g.D.Disk.calls g.D.Disk.faults o (held_of v n)) c.self.view_is
-    (subst (λ (u : World). Goes g.D.Disk.seen g.D.Disk.is_image g.D.Disk.calls g.D.Disk.faults (held_of w c.self.inside.logs) (held_of u n)) (sym same)
-    (subst (λ (o : RunLogs _). Goes g.D.Disk.seen g.D.Disk.is_image g.D.Disk.calls g.D.Disk.faults (held_of w c.self.inside.logs) (held_of w o)) (sym back)
-    (calls_go g.D.Disk.seen g.D.Disk.is_image g.D.Disk.calls g.D.Disk.faults w c.self.inside.logs m c.append.ensures.calls c.append.ensures.home_writes c.append.ensures.away_writes)))
-
+    let n = c.count.new.self in
+    let late : is_durable w ≡ false = sym c.is_durable.ensures ∙ c.if-is_durable.false in
+    let a : Adds true [] [] w v = subst (λ (u : World). Adds true [] [] w u) (sym c.flush.ensures) (adds_flush c.args.actor w late) in
+    let takes = subst (λ (u : World). promised u + 1 ≤ promised w) (sym c.flush.ensures) (flush_takes c.args.actor w late) in
+    let same = ap (λ l. length l.items) c.append.ensures.calls in
+    let most = ap (λ l. l.capacity) c.append.ensures.calls in
+    let room = c.self.invariant.room in
+    omega (arith, takes, same, most, room)
 pub invariant_of-self-2 : goal.invariant_of-self-2
 invariant_of-self-2 g c =
     let w = c.self.inside.state in
-    let v = c.flush-made.new.self in
+    let v = c.flush.new.self in
+    let l = c.self.inside.logs in
     let m = c.append.new.self in
-    let n = c.settle.new.self in
-    let counts : n ≡ with_numbers g.D.Disk.calls m = when_ok c.flush-made.result c.in_ok-made.field-0 c.in_ok-made.was c.settle.ensures.ok ∙ c.in_ok-count.ensures.ok in
+    let n = c.count.new.self in
     let late : is_durable w ≡ false = sym c.is_durable.ensures ∙ c.if-is_durable.false in
-    let did : v ≡ flushed c.args.actor w = when_ok c.flush-made.result c.in_ok-made.field-0 c.in_ok-made.was c.flush-made.ensures.ok in
-    let a : Adds true [] [] w v = subst (λ (u : World). Adds true [] [] w u) (sym did) (adds_flush c.args.actor w late) in
-    flush_counted g.D.Disk.seen g.D.Disk.is_image g.D.Disk.calls g.D.Disk.faults w v c.self.inside.logs m n c.self.invariant c.append.ensures.calls counts a
-    c.append.ensures.home_writes c.append.ensures.away_writes c.in_ok-append.ensures.home_flushes c.in_ok-append.ensures.away_flushes
-
+    let a : Adds true [] [] w v = subst (λ (u : World). Adds true [] [] w u) (sym c.flush.ensures) (adds_flush c.args.actor w late) in
+    let takes = subst (λ (u : World). promised u + 1 ≤ promised w) (sym c.flush.ensures) (flush_takes c.args.actor w late) in
+    let most = ap (λ l. l.capacity) c.append.ensures.calls in
+    let more = c.count.ensures.capacity in
+    record {
+      few = flush_counted g.D.Disk.seen g.D.Disk.is_image g.D.Disk.calls g.D.Disk.faults w v l m n c.self.invariant.few (ap (λ o. o.items) c.append.ensures.calls) c.count.ensures.home c.count.ensures.away c.count.ensures.calls a
+          c.append.ensures.home_writes c.append.ensures.away_writes c.in_ok-append.ensures.home_flushes c.in_ok-append.ensures.away_flushes;
+      room = flush_room g.D.Disk.seen g.D.Disk.is_image g.D.Disk.calls g.D.Disk.faults w v l m n c.self.invariant.few (ap (λ o. o.items) c.append.ensures.calls) c.count.ensures.home c.count.ensures.away c.count.ensures.calls a
+          c.append.ensures.home_writes c.append.ensures.away_writes c.in_ok-append.ensures.home_flushes c.in_ok-append.ensures.away_flushes (promised w) (promised v) takes c.self.invariant.room (omega (arith, most, more));
+    }
 pub returns-clause-disks : goal.returns-clause-disks
 returns-clause-disks g c =
     let w = c.self.inside.state in
-    let v = c.flush-made.new.self in
+    let v = c.flush.new.self in
+    let l = c.self.inside.logs in
     let m = c.append.new.self in
-    let n = c.settle.new.self in
-    let counts : n ≡ with_numbers g.D.Disk.calls m = when_ok c.flush-made.result c.in_ok-made.field-0 c.in_ok-made.was c.settle.ensures.ok ∙ c.in_ok-count.ensures.ok in
+    let n = c.count.new.self in
     let late : is_durable w ≡ false = sym c.is_durable.ensures ∙ c.if-is_durable.false in
-    let did : v ≡ flushed c.args.actor w = when_ok c.flush-made.result c.in_ok-made.field-0 c.in_ok-made.was c.flush-made.ensures.ok in
-    let a : Adds true [] [] w v = subst (λ (u : World). Adds true [] [] w u) (sym did) (adds_flush c.args.actor w late) in
+    let a : Adds true [] [] w v = subst (λ (u : World). Adds true [] [] w u) (sym c.flush.ensures) (adds_flush c.args.actor w late) in
     subst (λ (o : Held _). Goes g.D.Disk.seen g.D.Disk.is_image g.D.Disk.calls g.D.Disk.faults o (held_of v n)) c.self.view_is
-    (flush_goes g.D.Disk.seen g.D.Disk.is_image g.D.Disk.calls g.D.Disk.faults w v c.self.inside.logs m n c.self.invariant c.append.ensures.calls counts a
+    (flush_goes g.D.Disk.seen g.D.Disk.is_image g.D.Disk.calls g.D.Disk.faults w v l m n c.self.invariant.few (ap (λ o. o.items) c.append.ensures.calls) c.count.ensures.home c.count.ensures.away c.count.ensures.calls a
     c.append.ensures.home_writes c.append.ensures.away_writes c.in_ok-append.ensures.home_flushes c.in_ok-append.ensures.away_flushes)

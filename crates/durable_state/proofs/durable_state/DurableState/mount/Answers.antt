@@ -1,5 +1,7 @@
-use Rattle.std.proofs.Common.{◌≡◌, List, [], length, sym, ap, ◌∙◌}
+use Rattle.std.proofs.Common.{◌≡◌, List, [], length, sym, ap, ◌∙◌, arith}
 use Rattle.queue_rows.specs.declared.history.Entry.{Entry}
+use Rattle.run_state.specs.Promises.{promised}
+use Rattle.run_state.proofs.Promises.{promised_opened}
 use Rattle.durable_state.specs.Counted.{counted}
 use Rattle.durable_state.specs.declared.run_logs.RunLogs.{RunLogs}
 use Rattle.durable_state.proofs.Mounting.{begins, few_opened}
@@ -7,11 +9,16 @@ use Rattle.durable_state.proofs.durable_state.DurableState.mount.Goals as goal
 
 pub invariant_of-result : goal.invariant_of-result
 invariant_of-result g c =
-    ap length c.new.ensures ∙ sym (ap length (few_opened c.in-Ok.state c.args.home.1.tables c.args.away.1.tables c.args.scripts c.in-Ok.ensures))
+    let none = ap length c.new.ensures in
+    let no_promise : promised c.in-Ok.state ≡ 0 = ap promised c.in-Ok.ensures ∙ promised_opened c.args.home.1.tables c.args.away.1.tables c.args.scripts in
+    record {
+      few = none ∙ sym (ap length (few_opened c.in-Ok.state c.args.home.1.tables c.args.away.1.tables c.args.scripts c.in-Ok.ensures));
+      room = omega (arith, none, no_promise);
+    }
 
 pub returns-in-Ok-clause-entries : goal.returns-in-Ok-clause-entries
 returns-in-Ok-clause-entries g c =
-    ap (λ (es : List Entry). counted es c.new.result) (few_opened c.in-Ok.state c.args.home.1.tables c.args.away.1.tables c.args.scripts c.in-Ok.ensures)
+    ap (λ (es : List Entry). counted es c.new.result.items) (few_opened c.in-Ok.state c.args.home.1.tables c.args.away.1.tables c.args.scripts c.in-Ok.ensures)
 
 pub returns-in-Ok-clause-begun : goal.returns-in-Ok-clause-begun
 returns-in-Ok-clause-begun g c =

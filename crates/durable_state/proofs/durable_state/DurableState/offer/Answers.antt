@@ -1,4 +1,4 @@
-use Rattle.std.proofs.Common.{[], subst}
+use Rattle.std.proofs.Common.{refl, [], subst}
 use Rattle.durable_state.specs.Going.{Goes}
 use Rattle.durable_state.specs.Held.{Held}
 use Rattle.durable_state.specs.Queueing.{queued_of}
@@ -10,15 +10,16 @@ pub invariant_of-self-2 : goal.invariant_of-self-2
 invariant_of-self-2 g c =
     let w = c.self.inside.state in
     let v = c.offer-made.new.self in
-    (follows g.D.Disk.seen g.D.Disk.is_image g.D.Disk.calls g.D.Disk.faults c.offer-made.result c.moment.result [] [] c.in_ok-queued.queued w v c.self.inside.logs c.note.new.self c.settle.new.self
-    c.self.invariant c.moment.ensures c.in_ok-queued.ensures.same c.in_ok-queued.ensures.ok c.settle.ensures.ok c.settle.ensures.err
-    (offered_adds c.offer-made.result c.args.actor w v c.args.at c.args.to c.offer-made.ensures.ok) c.offer-made.ensures.err).few
+    let f = follows g.D.Disk.seen g.D.Disk.is_image g.D.Disk.calls g.D.Disk.faults c.offer-made.result w.moment [] [] c.in_ok-queued.queued w v c.self.inside.logs c.note.new.self c.settle.new.self
+    c.self.invariant.few refl c.in_ok-queued.ensures.same c.in_ok-queued.ensures.ok c.in_ok-queued.ensures.room c.settle.ensures.ok c.settle.ensures.err
+    (offered_adds c.offer-made.result c.args.actor w v c.args.at c.args.to c.offer-made.ensures.ok) c.offer-made.ensures.err in
+    record { few = f.few; room = f.room }
 
 pub returns-clause-disks : goal.returns-clause-disks
 returns-clause-disks g c =
     let w = c.self.inside.state in
     let v = c.offer-made.new.self in
     subst (λ (o : Held _). Goes g.D.Disk.seen g.D.Disk.is_image g.D.Disk.calls g.D.Disk.faults o (held_of v c.settle.new.self)) c.self.view_is
-    (follows g.D.Disk.seen g.D.Disk.is_image g.D.Disk.calls g.D.Disk.faults c.offer-made.result c.moment.result [] [] c.in_ok-queued.queued w v c.self.inside.logs c.note.new.self c.settle.new.self
-    c.self.invariant c.moment.ensures c.in_ok-queued.ensures.same c.in_ok-queued.ensures.ok c.settle.ensures.ok c.settle.ensures.err
+    (follows g.D.Disk.seen g.D.Disk.is_image g.D.Disk.calls g.D.Disk.faults c.offer-made.result w.moment [] [] c.in_ok-queued.queued w v c.self.inside.logs c.note.new.self c.settle.new.self
+    c.self.invariant.few refl c.in_ok-queued.ensures.same c.in_ok-queued.ensures.ok c.in_ok-queued.ensures.room c.settle.ensures.ok c.settle.ensures.err
     (offered_adds c.offer-made.result c.args.actor w v c.args.at c.args.to c.offer-made.ensures.ok) c.offer-made.ensures.err).goes

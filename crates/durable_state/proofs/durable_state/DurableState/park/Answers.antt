@@ -1,4 +1,4 @@
-use Rattle.std.proofs.Common.{◌≡◌, [], Some, false, sym, ap, ◌∙◌, subst, rules}
+use Rattle.std.proofs.Common.{refl, ◌≡◌, [], Some, false, sym, ap, ◌∙◌, subst, rules}
 use Rattle.std.specs.Prelude.{option_copied, option_map, is_some, slice_get}
 use Rattle.run_state.specs.Sessions.{session_of, unmarked}
 use Rattle.durable_state.specs.Going.{Goes}
@@ -14,9 +14,10 @@ invariant_of-self-2 g c =
     let none : is_some c.in-Some.session.now.parked ≡ false = search rules in
     let w = c.self.inside.state in
     let v = c.park-made.new.self in
-    (follows g.D.Disk.seen g.D.Disk.is_image g.D.Disk.calls g.D.Disk.faults c.park-made.result c.moment.result [] [] c.in_ok-queued.queued w v c.self.inside.logs c.note.new.self c.settle.new.self
-    c.self.invariant c.moment.ensures c.in_ok-queued.ensures.same c.in_ok-queued.ensures.ok c.settle.ensures.ok c.settle.ensures.err
-    (parked_adds c.park-made.result c.args.at c.args.since w v c.in-Some.session.now is none c.park-made.ensures.ok) c.park-made.ensures.err).few
+    let f = follows g.D.Disk.seen g.D.Disk.is_image g.D.Disk.calls g.D.Disk.faults c.park-made.result w.moment [] [] c.in_ok-queued.queued w v c.self.inside.logs c.note.new.self c.settle.new.self
+    c.self.invariant.few refl c.in_ok-queued.ensures.same c.in_ok-queued.ensures.ok c.in_ok-queued.ensures.room c.settle.ensures.ok c.settle.ensures.err
+    (parked_adds c.park-made.result c.args.at c.args.since w v c.in-Some.session.now is none c.park-made.ensures.ok) c.park-made.ensures.err in
+    record { few = f.few; room = f.room }
 
 pub returns-clause-disks : goal.returns-clause-disks
 returns-clause-disks g c =
@@ -25,6 +26,6 @@ returns-clause-disks g c =
     let w = c.self.inside.state in
     let v = c.park-made.new.self in
     subst (λ (o : Held _). Goes g.D.Disk.seen g.D.Disk.is_image g.D.Disk.calls g.D.Disk.faults o (held_of v c.settle.new.self)) c.self.view_is
-    (follows g.D.Disk.seen g.D.Disk.is_image g.D.Disk.calls g.D.Disk.faults c.park-made.result c.moment.result [] [] c.in_ok-queued.queued w v c.self.inside.logs c.note.new.self c.settle.new.self
-    c.self.invariant c.moment.ensures c.in_ok-queued.ensures.same c.in_ok-queued.ensures.ok c.settle.ensures.ok c.settle.ensures.err
+    (follows g.D.Disk.seen g.D.Disk.is_image g.D.Disk.calls g.D.Disk.faults c.park-made.result w.moment [] [] c.in_ok-queued.queued w v c.self.inside.logs c.note.new.self c.settle.new.self
+    c.self.invariant.few refl c.in_ok-queued.ensures.same c.in_ok-queued.ensures.ok c.in_ok-queued.ensures.room c.settle.ensures.ok c.settle.ensures.err
     (parked_adds c.park-made.result c.args.at c.args.since w v c.in-Some.session.now is none c.park-made.ensures.ok) c.park-made.ensures.err).goes

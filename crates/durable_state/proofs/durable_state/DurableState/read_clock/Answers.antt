@@ -1,5 +1,8 @@
 use Rattle.std.proofs.Common.{ap, sym, ◌∙◌, length, subst}
 use Rattle.queue_rows.specs.World.{World}
+use Rattle.run_state.specs.Promises.{promised}
+use Rattle.run_state.specs.Reserved.{HasPlaces}
+use Rattle.run_state.proofs.Promises.{promised_read}
 use Rattle.durable_state.specs.Going.{Goes}
 use Rattle.durable_state.specs.Held.{Held}
 use Rattle.durable_state.proofs.Stepping.{held_of, still_goes}
@@ -8,7 +11,11 @@ use Rattle.durable_state.proofs.durable_state.DurableState.read_clock.Goals as g
 
 pub invariant_of-self : goal.invariant_of-self
 invariant_of-self g c =
-    c.self.invariant ∙ sym (ap (λ (w : World). length w.entries) c.read_clock.ensures ∙ ap length (entries_read c.args.reading c.self.inside.state))
+    let w = c.self.inside.state in
+    record {
+      few = c.self.invariant.few ∙ sym (ap (λ (v : World). length v.entries) c.read_clock.ensures ∙ ap length (entries_read c.args.reading w));
+      room = subst (λ n. HasPlaces n c.self.inside.logs.calls) (sym (ap promised c.read_clock.ensures ∙ promised_read c.args.reading w)) c.self.invariant.room;
+    }
 
 pub returns-clause-disks : goal.returns-clause-disks
 returns-clause-disks g c =

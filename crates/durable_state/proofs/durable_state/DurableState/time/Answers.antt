@@ -15,9 +15,10 @@ invariant_of-self-2 g c =
     let queued : c.in_ok-home.field-0.queued ≡ queued_of c.args.home c.args.away = ap (λ (e : Entered). e.queued) c.in_ok-home.ensures.same in
     let home : c.in_ok-home.field-0.home ≡ c.args.home = ap (λ (e : Entered). e.home) c.in_ok-home.ensures.same in
     let away : c.in_ok-home.field-0.away ≡ c.args.away = ap (λ (e : Entered). e.away) c.in_ok-home.ensures.same in
-    (follows g.D.Disk.seen g.D.Disk.is_image g.D.Disk.calls g.D.Disk.faults c.time-made.result c.moment.result c.args.home c.args.away c.in_ok-home.field-0.queued w v c.self.inside.logs c.enter.new.self c.settle.new.self
-    c.self.invariant c.moment.ensures queued c.in_ok-home.ensures.ok c.settle.ensures.ok c.settle.ensures.err
-    (stepped_adds c.time-made.result c.args.actor w v c.args.home c.args.away c.in_ok-home.field-0.home c.in_ok-home.field-0.away Timer refl home away c.time-made.ensures.ok) c.time-made.ensures.err).few
+    let f = follows g.D.Disk.seen g.D.Disk.is_image g.D.Disk.calls g.D.Disk.faults c.time-made.result w.moment c.args.home c.args.away c.in_ok-home.field-0.queued w v c.self.inside.logs c.enter.new.self c.settle.new.self
+    c.self.invariant.few refl queued c.in_ok-home.ensures.ok c.in_ok-home.ensures.room c.settle.ensures.ok c.settle.ensures.err
+    (stepped_adds c.time-made.result c.args.actor w v c.args.home c.args.away c.in_ok-home.field-0.home c.in_ok-home.field-0.away Timer refl home away c.time-made.ensures.ok) c.time-made.ensures.err in
+    record { few = f.few; room = f.room }
 
 pub returns-clause-disks : goal.returns-clause-disks
 returns-clause-disks g c =
@@ -27,6 +28,6 @@ returns-clause-disks g c =
     let home : c.in_ok-home.field-0.home ≡ c.args.home = ap (λ (e : Entered). e.home) c.in_ok-home.ensures.same in
     let away : c.in_ok-home.field-0.away ≡ c.args.away = ap (λ (e : Entered). e.away) c.in_ok-home.ensures.same in
     subst (λ (o : Held _). Goes g.D.Disk.seen g.D.Disk.is_image g.D.Disk.calls g.D.Disk.faults o (held_of v c.settle.new.self)) c.self.view_is
-    (follows g.D.Disk.seen g.D.Disk.is_image g.D.Disk.calls g.D.Disk.faults c.time-made.result c.moment.result c.args.home c.args.away c.in_ok-home.field-0.queued w v c.self.inside.logs c.enter.new.self c.settle.new.self
-    c.self.invariant c.moment.ensures queued c.in_ok-home.ensures.ok c.settle.ensures.ok c.settle.ensures.err
+    (follows g.D.Disk.seen g.D.Disk.is_image g.D.Disk.calls g.D.Disk.faults c.time-made.result w.moment c.args.home c.args.away c.in_ok-home.field-0.queued w v c.self.inside.logs c.enter.new.self c.settle.new.self
+    c.self.invariant.few refl queued c.in_ok-home.ensures.ok c.in_ok-home.ensures.room c.settle.ensures.ok c.settle.ensures.err
     (stepped_adds c.time-made.result c.args.actor w v c.args.home c.args.away c.in_ok-home.field-0.home c.in_ok-home.field-0.away Timer refl home away c.time-made.ensures.ok) c.time-made.ensures.err).goes

@@ -1,10 +1,12 @@
-use Rattle.std.proofs.Common.{◌≡◌, Some, true, false, sym, ap, ◌∙◌, option_map, is_some, rules}
+use Rattle.std.proofs.Common.{refl, arith, ◌≡◌, Some, true, false, sym, ap, ◌∙◌, option_map, is_some, rules}
 use Rattle.std.specs.Prelude.{option_copied, slice_get}
 use Rattle.queue_rows.specs.Turns.{parked}
 use Rattle.queue_rows.specs.World.{World}
+use Rattle.run_state.specs.Promises.{replies_owed}
 use Rattle.run_state.specs.Sendings.{transit_of}
 use Rattle.run_state.specs.Sessions.{session_of, unmarked, changed_at, after_park}
 use Rattle.run_state.proofs.Results.{some_of}
+use Rattle.run_state.proofs.Promises.{owed_same}
 use Rattle.run_state.proofs.Putting.{run_of}
 use Rattle.run_state.proofs.Calls.{session_there, parked_is, waits_still}
 use Rattle.run_state.proofs.state.RunState.park.Goals as goal
@@ -27,9 +29,19 @@ returns-clause-ok c =
     let is : option_map session_of (Some c.in-Some.session.now) ≡ option_map unmarked (slice_get p.registry.sessions c.args.at) = sym (ap (λ o. option_map session_of (option_copied o)) c.in-Some.is) ∙ c.get.ensures in
     let s = session_there (slice_get p.registry.sessions c.args.at) c.in-Some.session.now is in
     let there : slice_get now.sessions c.args.at ≡ Some s.0 = ap (λ v. slice_get v.sessions c.args.at) (sym c.self.view_is) ∙ s.1 in
-    let v = run_of q.home q.away q.scripts q.registry.sessions (option_map transit_of q.transit) q.opening q.moment q.readings q.entries in
+    let v = run_of q.home q.away q.scripts q.registry.sessions (option_map transit_of q.transit) q.opening q.moment q.readings q.entries.items in
     let none : is_some c.in-Some.session.now.parked ≡ false = search rules in
     let number = ap (λ t. t.next) s.2 in
     let changed = ap (λ ss. record v { sessions = ss }) c.park.ensures ∙ ap (λ (x : World). record x { sessions = changed_at c.args.at (after_park c.args.since) x.sessions }) (c.self-2.view_is ∙ c.in_ok-note.ensures.ok) in
     some_of (λ t. record v { sessions = c.park.new.self.sessions } ≡ parked c.args.at t c.args.since now) (slice_get now.sessions c.args.at) s.0 there
     (changed ∙ parked_is c.args.at c.args.since c.in-Some.session.now.next s.0 now there (ap (λ t. is_some t.parked) (sym s.2) ∙ none) number)
+
+pub invariant_of-self : goal.invariant_of-self
+invariant_of-self c =
+    let same = ap replies_owed c.park.ensures ∙ owed_same (after_park c.args.since) c.self-2.inside.registry.sessions c.args.at (λ s. refl) in
+    let room = c.self-2.invariant.room in
+    record {
+      calls = c.self-2.invariant.calls;
+      counted = c.self-2.invariant.counted;
+      room = omega (arith, same, room);
+    }
