@@ -34,7 +34,8 @@ use Rattle.run_laws.proofs.Sendings.{arrives_so}
 use Rattle.run_laws.proofs.Stepping.{Leads, ids_at}
 use Rattle.run_laws.proofs.Worlds.{arrival_changes, other_of, arrival_leads, opens_valid}
 use Rattle.run_turns.proofs.Adding.{Adds, step_adds, arrive_adds, last-snoc}
-use Rattle.run_fates.proofs.Making.{AreMade, opened_made, made_from}
+use Rattle.history_fates.proofs.Making.{opened_made}
+use Rattle.run_fates.proofs.Making.{AreMade, made_from}
 use Rattle.run_fates.proofs.Lasting.{legal_commits_fit}
 
 -- what leads to a world adds the entry of the step

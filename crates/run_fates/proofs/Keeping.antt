@@ -37,7 +37,8 @@ use Rattle.run_turns.proofs.Sounding.{GrowsTo, grows_on, committed_seen, HasCome
 use Rattle.run_fates.specs.DurableRun.{durable_tables_at, ConfirmedIsSeen, CopiedIsDurable}
 use Rattle.run_fates.proofs.Arrivals.{left_is, same_slot_is}
 use Rattle.run_fates.proofs.Leading.{Led, step_led, AllDurable, step_stays, step_flushes, Carries, keeps, starts, leaves, step_carries}
-use Rattle.run_fates.proofs.Making.{AreMade, opened_made, made_from}
+use Rattle.history_fates.proofs.Making.{opened_made}
+use Rattle.run_fates.proofs.Making.{AreMade, made_from}
 
 -- ---- lists
 
