@@ -1,16 +1,18 @@
 -- Every commit is durable when the serial schedule has come to its end.
-use Rattle.std.proofs.Common.{◌≡◌, ◌≤◌, ℕ, List, [], Bool, true, false, refl, sym, ap, ◌∙◌, arith}
+use Rattle.std.proofs.Common.{◌≡◌, ◌≤◌, ℕ, List, [], ◌∷◌, ◌++◌, Bool, true, false, refl, sym, ap, subst, ◌∙◌, arith}
+use Rattle.std.specs.List.{list_any}
 use Rattle.std.specs.Prelude.{nat_lt, if◌then◌else◌}
 use Rattle.std.proofs.lemmas.Bool.{and_parts, not-true, ltb-false}
 use Rattle.aq_base.specs.declared.DbId.{DbId}
 use Rattle.aq_base.specs.declared.DbId.TheVariants.{Home, Away}
 use Rattle.queue_rows.specs.Turns.{step_readings, is_durable, all_durable, flushed, drained, closing_turn}
 use Rattle.queue_rows.specs.declared.tables.Tables.{Tables}
+use Rattle.queue_rows.specs.declared.history.Entry.{Entry}
 use Rattle.queue_rows.specs.declared.history.History.{History}
 use Rattle.queue_rows.specs.declared.history.SessionScript.{SessionScript}
 use Rattle.world_laws.specs.WorldLaws.{MayBegin}
-use Rattle.history_fates.specs.Durability.{until_flush, made, durable}
-use Rattle.history_fates.proofs.Telling.{until_uncounted, made_uncounted}
+use Rattle.history_fates.specs.Durability.{is_flush_entry, until_flush, made, durable}
+use Rattle.history_fates.proofs.Telling.{until_uncounted, made_first, made_uncounted}
 use Rattle.queue_rows.specs.declared.history.Step.TheVariants.{Flush}
 use Rattle.queue_rows.specs.World.{World, database_at, opened, stepped}
 use Rattle.queue_rows.specs.Sending.{is_durable_at}
@@ -18,7 +20,7 @@ use Rattle.queue_rows.specs.Serial.{rounds, at_closing, next_closing_turn, IsSer
 use Rattle.queue_rows.specs.Legal.{opens}
 use Rattle.run_laws.proofs.Worlds.{opens_valid}
 use Rattle.run_turns.proofs.Calling.{entries-opened}
-use Rattle.run_turns.proofs.Legally.{IsOnClock, rounds_on, closing_on}
+use Rattle.run_turns.proofs.OnClock.{IsOnClock, rounds_on, closing_on}
 use Rattle.run_turns.proofs.Sounding.{opened_sound}
 use Rattle.run_fates.proofs.Telling.{legal_kept, opened_kept}
 
@@ -51,6 +53,19 @@ all_closed : (db : DbId) (steps : ℕ) (w : World) → IsAll db (next_closing_tu
 unfolding closing_turn
 all_closed db steps w = all_flushed 66 db (drained steps (at_closing w))
 
+-- ---- what is durable was made
+
+front_if : (b : Bool) (e : Entry) (more : List Entry) → (rest : List Entry) × (until_flush more ++ rest ≡ more) → (rest : List Entry) × ((if b then e ∷ until_flush more else []) ++ rest ≡ e ∷ more)
+front_if true e more f = (f.0, ap (λ es. e ∷ es) f.1)
+front_if false e more f = (e ∷ more, refl)
+
+until_front : (entries : List Entry) → (rest : List Entry) × (until_flush entries ++ rest ≡ entries)
+until_front [] = ([], refl)
+until_front (e ∷ more) = front_if (list_any is_flush_entry (e ∷ more)) e more (until_front more)
+
+durable_within : (db : DbId) (entries : List Entry) → durable db entries ≤ made db entries
+durable_within db entries = let f = until_front entries in subst (λ es. durable db entries ≤ made db es) f.1 (made_first db (until_flush entries) f.0)
+
 -- ---- the serial history
 
 module _ (home away : Tables) (scripts : List SessionScript) (b : MayBegin home away scripts) where
@@ -80,5 +95,8 @@ module _ (home away : Tables) (scripts : List SessionScript) (b : MayBegin home 
       ap (durable db) (sym s.turns.entries_are) ∙ ap (made db) (until_uncounted h.entries) ∙ made_uncounted db (until_flush h.entries) in
       omega (arith, all, m, d, lhs, rhs)
 
-pub serial_is_durable : (home away : Tables) (scripts : List SessionScript) (h : History) → MayBegin home away scripts → IsSerial home away scripts h → (db : DbId) → made db h.entries ≤ durable db h.entries
-serial_is_durable home away scripts h b s db = serial_durable home away scripts b h s db
+pub serial_is_durable : (home away : Tables) (scripts : List SessionScript) (h : History) → MayBegin home away scripts → IsSerial home away scripts h → (db : DbId) → durable db h.entries ≡ made db h.entries
+serial_is_durable home away scripts h b s db =
+    let all = serial_durable home away scripts b h s db in
+    let no_more = durable_within db h.entries in
+    omega (arith, all, no_more)

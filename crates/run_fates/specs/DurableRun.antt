@@ -45,4 +45,4 @@ LegalCopiesDurable = (home away : Tables) (scripts : List SessionScript) (h : Hi
 -- at the end of a serial history every commit is durable
 abbrev pub SerialIsDurable : Type 0
 SerialIsDurable = (home away : Tables) (scripts : List SessionScript) (h : History) → MayBegin home away scripts → IsSerial home away scripts h
-    → (db : DbId) → made db h.entries ≤ durable db h.entries
+    → (db : DbId) → durable db h.entries ≡ made db h.entries

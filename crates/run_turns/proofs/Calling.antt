@@ -86,7 +86,7 @@ in_order-opened home away scripts = λ j s there.
     }
 
 -- the session of a script
-session_of : (home away : Tables) (scripts : List SessionScript) (readings : List ℕ) (w : World) (j : ℕ) (script : SessionScript) → IsLegal (opened home away scripts) readings w → slice_get scripts j ≡ Some script
+pub session_of : (home away : Tables) (scripts : List SessionScript) (readings : List ℕ) (w : World) (j : ℕ) (script : SessionScript) → IsLegal (opened home away scripts) readings w → slice_get scripts j ≡ Some script
     → (s : Session) × (slice_get w.sessions j ≡ Some s)
 session_of home away scripts readings w j script l there =
     let n : length w.sessions ≡ length scripts = legal_count (opened home away scripts) readings w l ∙ ap length (sessions-opened home away scripts) ∙ length-map scripts fresh in

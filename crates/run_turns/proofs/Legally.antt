@@ -1,4 +1,4 @@
--- Each turn of the serial schedule takes legal steps.
+-- Each turn takes legal steps, whatever reading it takes.
 use Rattle.std.proofs.Common.{◌≡◌, ℕ, zero, suc, ◌+◌, ◌<◌, ◌≤◌, Bool, true, false, not, List, [], ◌∷◌, ◌++◌, Option, Some, None, refl, sym, ap, subst, ◌∙◌, arith, add-one, length}
 use Rattle.std.specs.Prelude.{slice_get, option_map, option_and_then, if◌then◌else◌, nat_lt, ◌||◌, ◌&&◌, ◌==◌, is_some}
 use Rattle.std.proofs.lemmas.Bool.{lt-ltb, le-ltb, ltb-false, le-leb, and_parts, and_from, or_left, or_right, eq-eqb, not-true, not_from_false}
@@ -10,8 +10,7 @@ use Rattle.queue_rows.specs.Meaning.{Meaning, answers, parks}
 use Rattle.queue_rows.specs.Due.{due}
 use Rattle.queue_rows.specs.Propagating.{Dispatch, dispatch}
 use Rattle.queue_rows.specs.World.{committed_tables, other_db, World, Transit, Stage, on_its_way, came, database_at, read_clock, stepped, with_session, entry_of}
-use Rattle.queue_rows.specs.Turns.{step_readings, step_reading, next_reading, due_at, is_due, timed, caught_up, begun, own_turn, turned_by, is_durable, all_durable, flushed, told, propagated_by, propagated, turn_of, turn_of_some, session_turn, telling_of, telling_of_some, telling_turn, any_live, timer_turn, propagator_turn, drained_once, drained, closing_turn}
-use Rattle.queue_rows.specs.Legal.{is_late, is_first_of_turn, is_timely_after, last_entry, IsLegal, reads, steps, MayStep, is_timely, is_sender, is_actor, IsReady}
+use Rattle.queue_rows.specs.Legal.{is_late, is_first_of_turn, is_timely_after, last_entry, IsLegal, MayStep, is_timely, is_sender, is_actor, IsReady}
 use Rattle.queue_rows.specs.declared.tables.Tables.{Tables}
 use Rattle.queue_rows.specs.declared.statement.Statement.{Statement}
 use Rattle.queue_rows.specs.declared.history.Entry.{Entry}
@@ -21,7 +20,7 @@ use Rattle.queue_rows.specs.declared.history.Step.TheVariants.{Call, Park, Timer
 use Rattle.valid_laws.proofs.Still.{nothing_after}
 use Rattle.queue_rows.specs.Sending.{Sending, offers, arrives, confirms, dispatch_at, picked, offer_of, arrival_of, confirmation_of, sending_on, sending_of, next_sending, is_durable_at, may_follow, sent}
 use Rattle.queue_rows.specs.Statements.{slot_sent, meaning, next_statement}
-use Rattle.queue_rows.specs.Serial.{next_session_turn, next_timer_turn, next_propagator_turn, each, session_turns, background_turns, round, rounds, at_closing, next_closing_turn}
+use Rattle.queue_rows.specs.Turns.{due_at, is_due, timed, caught_up, begun, own_turn, turned_by, is_durable, all_durable, flushed, told, propagated_by, propagated, turn_of, turn_of_some, session_turn, telling_of, telling_of_some, telling_turn, any_live, timer_turn, propagator_turn, drained_once, drained, closing_turn}
 use Rattle.run_laws.specs.ValidRun.{IsValidWorld}
 use Rattle.run_laws.proofs.Sendings.{confirms_so}
 use Rattle.run_laws.proofs.Stepping.{step_sessions, step_transit}
@@ -30,31 +29,17 @@ use Rattle.run_turns.proofs.Adding.{Adds, step_adds, last-snoc}
 use Rattle.run_turns.proofs.Oneness.{sessions-read, sessions-begun}
 use Rattle.run_turns.proofs.Sounding.{IsSound, sound_from, come_within, ReadInTime, legal_in_time}
 
--- ---- the clock
+-- ---- worlds of a run
 
--- the world is legal by the readings of the serial schedule's clock
-pub record IsOnClock (start w : World) : Type 0 where
-  pub legal : IsLegal start (step_readings start.opening w.readings) w
-  pub opening : w.opening ≡ start.opening
+-- The worlds of a run, and the reading that comes next in each: they are legal, and that reading and legal steps lead from one to another.
+pub record GoesOn (start : World) (On : World → Type 0) (next_of : World → ℕ) : Type 0 where
+  pub legal : (w : World) → On w → (readings : List ℕ) × IsLegal start readings w
+  pub read : (w : World) → On w → On (read_clock (next_of w) w)
+  pub step : (actor : ℕ) (step : Step) (w new : World) → On w → is_timely w actor step ≡ true → MayStep actor step w new → On new
 
 -- the actor may make any step
 abbrev pub MayGo : ℕ → World → Type 0
 MayGo actor w = (step : Step) → is_timely w actor step ≡ true
-
--- a legal step keeps it so
-step_on_clock : {start w new : World} (actor : ℕ) (step : Step) → IsOnClock start w → is_timely w actor step ≡ true → MayStep actor step w new → IsOnClock start new
-step_on_clock {start = start} {w = w} {new = new} actor step c timely m =
-    let a = step_adds actor step w new m in
-    record { legal = subst (λ n. IsLegal start (step_readings start.opening n) new) (sym a.readings) (steps (step_readings start.opening w.readings) w new actor step c.legal timely m); opening = a.opening ∙ c.opening }
-
-read_on_clock : (start w : World) → IsOnClock start w → IsOnClock start (read_clock (next_reading w) w)
-unfolding read_clock
-read_on_clock start w c =
-    let v = read_clock (next_reading w) w in
-    let l : IsLegal start (step_readings start.opening w.readings ++ next_reading w ∷ []) v = reads (step_readings start.opening w.readings) w (next_reading w) c.legal in
-    let same : step_readings start.opening w.readings ++ next_reading w ∷ [] ≡ step_readings start.opening (w.readings + 1)
-    = ap (λ o. step_readings start.opening w.readings ++ step_reading o (w.readings + 1) ∷ []) c.opening ∙ sym (ap (step_readings start.opening) (add-one w.readings)) in
-    record { legal = subst (λ rs. IsLegal start rs v) same l; opening = c.opening }
 
 -- ---- readings of their own
 
@@ -112,71 +97,75 @@ calm_timed w actor v =
 
 -- ---- a turn that has begun
 
-pub record HasBegun (start : World) (actor : ℕ) (w : World) : Type 0 where
-  pub clock : IsOnClock start w
+pub record HasBegun (On : World → Type 0) (actor : ℕ) (w : World) : Type 0 where
+  pub on : On w
   pub go : MayGo actor w
   pub by : is_actor w actor ≡ true
 
-pub record IsCalmTurn (start : World) (actor : ℕ) (w : World) : Type 0 where
-  pub begun_so : HasBegun start actor w
+pub record IsCalmTurn (On : World → Type 0) (actor : ℕ) (w : World) : Type 0 where
+  pub begun_so : HasBegun On actor w
   pub calm : is_due w ≡ false
 
 same_actor : (v w : World) (actor : ℕ) → v.sessions ≡ w.sessions → is_actor w actor ≡ true → is_actor v actor ≡ true
 same_actor v w actor e h = ap (λ xs. nat_lt actor (length xs) || (actor == 64) || is_sender actor) e ∙ h
 
-module _ (start : World) (sv : IsValidWorld start) (sk : IsSound start) (first : start.entries ≡ []) where
-  pub valid_now : (w : World) → IsOnClock start w → IsValidWorld w
-  valid_now w c = (sound_from start sv sk (step_readings start.opening w.readings) w c.legal).0
+module _ (start : World) (sv : IsValidWorld start) (sk : IsSound start) (first : start.entries ≡ []) (On : World → Type 0) (next_of : World → ℕ) (goes : GoesOn start On next_of) where
+  -- a legal step leads on
+  step_on : {w new : World} (actor : ℕ) (step : Step) → On w → is_timely w actor step ≡ true → MayStep actor step w new → On new
+  step_on {w = w} {new = new} actor step c timely m = goes.step actor step w new c timely m
 
-  sound_now : (w : World) → IsOnClock start w → IsSound w
-  sound_now w c = (sound_from start sv sk (step_readings start.opening w.readings) w c.legal).1
+  pub valid_now : (w : World) → On w → IsValidWorld w
+  valid_now w c = let l = goes.legal w c in (sound_from start sv sk l.0 w l.1).0
 
-  in_time_now : (w : World) → IsOnClock start w → ReadInTime w
-  in_time_now w c = legal_in_time start (step_readings start.opening w.readings) w first c.legal
+  sound_now : (w : World) → On w → IsSound w
+  sound_now w c = let l = goes.legal w c in (sound_from start sv sk l.0 w l.1).1
 
-  caught_cases : (w : World) (actor : ℕ) (b : Bool) → is_due w ≡ b → HasBegun start actor w → IsCalmTurn start actor (if b then timed actor w else w)
+  in_time_now : (w : World) → On w → ReadInTime w
+  in_time_now w c = let l = goes.legal w c in legal_in_time start l.0 w first l.1
+
+  caught_cases : (w : World) (actor : ℕ) (b : Bool) → is_due w ≡ b → HasBegun On actor w → IsCalmTurn On actor (if b then timed actor w else w)
   caught_cases w actor true e k =
       let m : MayStep actor Timer w (timed actor w) = record { by = k.by; wanted = e; result = refl } in
       record {
         begun_so = record {
-          clock = step_on_clock actor Timer k.clock (k.go Timer) m;
+          on = step_on actor Timer k.on (k.go Timer) m;
           go = go_behind actor Timer w (timed actor w) refl (step_adds actor Timer w (timed actor w) m);
           by = same_actor (timed actor w) w actor (step_sessions actor w (due_at Home w) (due_at Away w) Timer) k.by;
         };
-        calm = calm_timed w actor (valid_now w k.clock);
+        calm = calm_timed w actor (valid_now w k.on);
       }
   caught_cases w actor false e k = record { begun_so = k; calm = e }
 
-  caught_so : (w : World) (actor : ℕ) → HasBegun start actor w → IsCalmTurn start actor (caught_up actor w)
+  caught_so : (w : World) (actor : ℕ) → HasBegun On actor w → IsCalmTurn On actor (caught_up actor w)
   unfolding caught_up
   caught_so w actor k = caught_cases w actor (is_due w) refl k
 
   -- the reading that a turn takes
-  read_so : (w : World) (actor : ℕ) → is_actor w actor ≡ true → IsOnClock start w → HasBegun start actor (read_clock (next_reading w) w)
+  read_so : (w : World) (actor : ℕ) → is_actor w actor ≡ true → On w → HasBegun On actor (read_clock (next_of w) w)
   read_so w actor by c = record {
-    clock = read_on_clock start w c;
-    go = go_read w actor (next_reading w) (in_time_now w c);
-    by = same_actor (read_clock (next_reading w) w) w actor (sessions-read (next_reading w) w) by;
+    on = goes.read w c;
+    go = go_read w actor (next_of w) (in_time_now w c);
+    by = same_actor (read_clock (next_of w) w) w actor (sessions-read (next_of w) w) by;
   }
 
-  begun_turn : (w : World) (actor : ℕ) → is_actor w actor ≡ true → IsOnClock start w → IsCalmTurn start actor (begun actor (next_reading w) w)
-  begun_turn w actor by c = caught_so (read_clock (next_reading w) w) actor (read_so w actor by c)
+  begun_turn : (w : World) (actor : ℕ) → is_actor w actor ≡ true → On w → IsCalmTurn On actor (begun actor (next_of w) w)
+  begun_turn w actor by c = caught_so (read_clock (next_of w) w) actor (read_so w actor by c)
 
   -- ---- a session's own steps
 
-  park_on : (v : World) (i : ℕ) (s : Session) (statement : Statement) (since : ℕ) (o : Option ℕ) → s.parked ≡ o → meaning v i s statement ≡ parks since → next_statement v i s ≡ Some statement → MayGo i v → IsReady i s v → IsOnClock start v
-      → IsOnClock start (if is_some o then v else with_session i (record s { parked = Some since }) (stepped i v [] [] (Park (s.next + 1))))
+  park_on : (v : World) (i : ℕ) (s : Session) (statement : Statement) (since : ℕ) (o : Option ℕ) → s.parked ≡ o → meaning v i s statement ≡ parks since → next_statement v i s ≡ Some statement → MayGo i v → IsReady i s v → On v
+      → On (if is_some o then v else with_session i (record s { parked = Some since }) (stepped i v [] [] (Park (s.next + 1))))
   park_on v i s statement since (Some at) p e n go ready c = c
   park_on v i s statement since None p e n go ready c =
-      step_on_clock i (Park (s.next + 1)) c (go (Park (s.next + 1))) (record { session = s; statement = statement; since = since; number_is = refl; parks = record { ready = ready; once = p; next = n; means = e; result = refl } })
+      step_on i (Park (s.next + 1)) c (go (Park (s.next + 1))) (record { session = s; statement = statement; since = since; number_is = refl; parks = record { ready = ready; once = p; next = n; means = e; result = refl } })
 
-  by_meaning : (v : World) (i : ℕ) (s : Session) (statement : Statement) (m : Meaning) → meaning v i s statement ≡ m → next_statement v i s ≡ Some statement → MayGo i v → IsReady i s v → IsOnClock start v → IsOnClock start (turned_by i s m v)
+  by_meaning : (v : World) (i : ℕ) (s : Session) (statement : Statement) (m : Meaning) → meaning v i s statement ≡ m → next_statement v i s ≡ Some statement → MayGo i v → IsReady i s v → On v → On (turned_by i s m v)
   by_meaning v i s statement (answers reply cs after) e n go ready c =
-      step_on_clock i (Call (s.next + 1) reply) c (go (Call (s.next + 1) reply)) (record { session = s; statement = statement; changes = cs; after = after; number_is = refl; calls = record { ready = ready; next = n; means = e; result = refl } })
+      step_on i (Call (s.next + 1) reply) c (go (Call (s.next + 1) reply)) (record { session = s; statement = statement; changes = cs; after = after; number_is = refl; calls = record { ready = ready; next = n; means = e; result = refl } })
   by_meaning v i s statement (parks since) e n go ready c = park_on v i s statement since s.parked refl e n go ready c
 
-  by_next : (v : World) (i : ℕ) (s : Session) (o : Option Statement) → next_statement v i s ≡ o → MayGo i v → IsReady i s v → IsOnClock start v → IsOnClock start (own_turn i s o v)
-  by_next v i s None e go ready c = step_on_clock i End c (go End) (s, record { ready = ready; all = e; result = refl })
+  by_next : (v : World) (i : ℕ) (s : Session) (o : Option Statement) → next_statement v i s ≡ o → MayGo i v → IsReady i s v → On v → On (own_turn i s o v)
+  by_next v i s None e go ready c = step_on i End c (go End) (s, record { ready = ready; all = e; result = refl })
   by_next v i s (Some statement) e go ready c = by_meaning v i s statement (meaning v i s statement) refl e go ready c
 
   scripts-caught : (w : World) (actor : ℕ) (b : Bool) → (if b then timed actor w else w).scripts ≡ w.scripts
@@ -194,24 +183,24 @@ module _ (start : World) (sv : IsValidWorld start) (sk : IsSound start) (first :
   is_own : (w : World) (i : ℕ) (s : Session) → slice_get w.sessions i ≡ Some s → is_actor w i ≡ true
   is_own w i s there = or_left (nat_lt i (length w.sessions) || (i == 64)) (is_sender i) (or_left (nat_lt i (length w.sessions)) (i == 64) (lt-ltb i (length w.sessions) (slice_get_within w.sessions i s there)))
 
-  by_live : (w : World) (i : ℕ) (s : Session) (b : Bool) → s.live ≡ b → slice_get w.sessions i ≡ Some s → s.untold ≡ None → IsOnClock start w → IsOnClock start (if b then own_turn i s (next_statement w i s) (begun i (next_reading w) w) else w)
+  by_live : (w : World) (i : ℕ) (s : Session) (b : Bool) → s.live ≡ b → slice_get w.sessions i ≡ Some s → s.untold ≡ None → On w → On (if b then own_turn i s (next_statement w i s) (begun i (next_of w) w) else w)
   by_live w i s false e there told c = c
   by_live w i s true e there told c =
       let k = begun_turn w i (is_own w i s there) c in
-      let v = begun i (next_reading w) w in
-      by_next v i s (next_statement w i s) (next-begun w i (next_reading w) i s) k.begun_so.go
-      (record { there = ap (λ xs. slice_get xs i) (sessions-begun i (next_reading w) w) ∙ there; live = e; told = told; calm = k.calm }) k.begun_so.clock
+      let v = begun i (next_of w) w in
+      by_next v i s (next_statement w i s) (next-begun w i (next_of w) i s) k.begun_so.go
+      (record { there = ap (λ xs. slice_get xs i) (sessions-begun i (next_of w) w) ∙ there; live = e; told = told; calm = k.calm }) k.begun_so.on
 
   -- ---- flushes
 
   -- all is durable, and what came is seen
-  record IsFlushed (w new : World) : Type 0 where
-    durable : (db : DbId) → (database_at db new).made ≤ (database_at db new).durable
+  pub record IsFlushed (w new : World) : Type 0 where
+    pub durable : (db : DbId) → (database_at db new).made ≤ (database_at db new).durable
     sessions : new.sessions ≡ w.sessions
     made : (db : DbId) → (database_at db new).made ≡ (database_at db w).made
-    clock : IsOnClock start new
-    sends : next_sending new ≡ next_sending w
-    due_same : is_due new ≡ is_due w
+    on : On new
+    pub sends : next_sending new ≡ next_sending w
+    pub due_same : is_due new ≡ is_due w
 
   both_durable : (w : World) → is_durable w ≡ true → (db : DbId) → (database_at db w).made ≤ (database_at db w).durable
   both_durable w e Home = let p = and_parts (is_durable_at Home w) (is_durable_at Away w) e in ltb-false w.home.durable w.home.made (not-true (nat_lt w.home.durable w.home.made) p.0)
@@ -282,18 +271,18 @@ module _ (start : World) (sv : IsValidWorld start) (sk : IsSound start) (first :
   flush_durable w actor Home = (omega arith, omega arith)
   flush_durable w actor Away = (omega arith, omega arith)
 
-  flush_cases : (w : World) (actor : ℕ) (b : Bool) → is_durable w ≡ b → is_actor w actor ≡ true → IsOnClock start w → IsFlushed w (if b then w else all_durable (stepped actor w [] [] Flush))
-  flush_cases w actor true e by c = record { durable = both_durable w e; sessions = refl; made = λ db. refl; clock = c; sends = refl; due_same = refl }
+  flush_cases : (w : World) (actor : ℕ) (b : Bool) → is_durable w ≡ b → is_actor w actor ≡ true → On w → IsFlushed w (if b then w else all_durable (stepped actor w [] [] Flush))
+  flush_cases w actor true e by c = record { durable = both_durable w e; sessions = refl; made = λ db. refl; on = c; sends = refl; due_same = refl }
   flush_cases w actor false e by c = record {
     durable = λ db. (flush_durable w actor db).0;
     sessions = step_sessions actor w [] [] Flush;
     made = λ db. (flush_durable w actor db).1;
-    clock = step_on_clock actor Flush c refl (record { by = by; wanted = e; result = refl });
+    on = step_on actor Flush c refl (record { by = by; wanted = e; result = refl });
     sends = flush_sends w actor;
     due_same = flush_due w actor;
   }
 
-  flushed_so : (w : World) (actor : ℕ) → is_actor w actor ≡ true → IsOnClock start w → IsFlushed w (flushed actor w)
+  flushed_so : (w : World) (actor : ℕ) → is_actor w actor ≡ true → On w → IsFlushed w (flushed actor w)
   unfolding flushed
   flushed_so w actor by c = flush_cases w actor (is_durable w) refl by c
 
@@ -307,11 +296,11 @@ module _ (start : World) (sv : IsValidWorld start) (sk : IsSound start) (first :
 
   -- ---- tellings
 
-  told_on : (w : World) (i : ℕ) (s : Session) (u : Untold) → s.untold ≡ Some u → slice_get w.sessions i ≡ Some s → IsOnClock start w → IsOnClock start (told i s u.number w)
+  told_on : (w : World) (i : ℕ) (s : Session) (u : Untold) → s.untold ≡ Some u → slice_get w.sessions i ≡ Some s → On w → On (told i s u.number w)
   told_on w i s u e there c =
       let f = flushed_so w i (is_own w i s there) c in
       let n = (sound_now w c).counted i s u there e in
-      step_on_clock i (Told u.number) f.clock refl
+      step_on i (Told u.number) f.on refl
       (record {
         session = s;
         untold = u;
@@ -325,37 +314,37 @@ module _ (start : World) (sv : IsValidWorld start) (sk : IsSound start) (first :
         };
       })
 
-  by_call : (w : World) (i : ℕ) (s : Session) (o : Option Untold) → s.untold ≡ o → slice_get w.sessions i ≡ Some s → IsOnClock start w → IsOnClock start (turn_of (next_reading w) i s o w)
+  by_call : (w : World) (i : ℕ) (s : Session) (o : Option Untold) → s.untold ≡ o → slice_get w.sessions i ≡ Some s → On w → On (turn_of (next_of w) i s o w)
   by_call w i s (Some u) e there c = told_on w i s u e there c
   by_call w i s None e there c = by_live w i s s.live refl there e c
 
-  by_session : (w : World) (i : ℕ) (o : Option Session) → slice_get w.sessions i ≡ o → IsOnClock start w → IsOnClock start (turn_of_some (next_reading w) i o w)
+  by_session : (w : World) (i : ℕ) (o : Option Session) → slice_get w.sessions i ≡ o → On w → On (turn_of_some (next_of w) i o w)
   by_session w i None e c = c
   by_session w i (Some s) e c = by_call w i s s.untold refl e c
 
-  pub session_turn_on : (w : World) (i : ℕ) → IsOnClock start w → IsOnClock start (next_session_turn i w)
+  pub session_turn_on : (w : World) (i : ℕ) → On w → On (session_turn (next_of w) i w)
   unfolding session_turn
   session_turn_on w i c = by_session w i (slice_get w.sessions i) refl c
 
-  telling_by : (w : World) (i : ℕ) (s : Session) (o : Option Untold) → s.untold ≡ o → slice_get w.sessions i ≡ Some s → IsOnClock start w → IsOnClock start (telling_of i s o w)
+  telling_by : (w : World) (i : ℕ) (s : Session) (o : Option Untold) → s.untold ≡ o → slice_get w.sessions i ≡ Some s → On w → On (telling_of i s o w)
   telling_by w i s None e there c = c
   telling_by w i s (Some u) e there c = told_on w i s u e there c
 
-  telling_some : (w : World) (i : ℕ) (o : Option Session) → slice_get w.sessions i ≡ o → IsOnClock start w → IsOnClock start (telling_of_some i o w)
+  telling_some : (w : World) (i : ℕ) (o : Option Session) → slice_get w.sessions i ≡ o → On w → On (telling_of_some i o w)
   telling_some w i None e c = c
   telling_some w i (Some s) e c = telling_by w i s s.untold refl e c
 
-  telling_turn_on : (w : World) (i : ℕ) → IsOnClock start w → IsOnClock start (telling_turn i w)
+  pub telling_turn_on : (w : World) (i : ℕ) → On w → On (telling_turn i w)
   unfolding telling_turn
   telling_turn_on w i c = telling_some w i (slice_get w.sessions i) refl c
 
   -- ---- propagation
 
   -- where all is durable, any step that comes next may follow
-  durable_there : (w : World) (db : DbId) → (database_at db w).made ≤ (database_at db w).durable → is_durable_at db w ≡ true
+  pub durable_there : (w : World) (db : DbId) → (database_at db w).made ≤ (database_at db w).durable → is_durable_at db w ≡ true
   durable_there w db le = not_from_false (nat_lt (database_at db w).durable (database_at db w).made) (le-ltb (database_at db w).durable (database_at db w).made le)
 
-  follows : (w : World) (s : Sending) → IsOnClock start w → ((db : DbId) → (database_at db w).made ≤ (database_at db w).durable) → next_sending w ≡ Some s → may_follow w s ≡ true
+  follows : (w : World) (s : Sending) → On w → ((db : DbId) → (database_at db w).made ≤ (database_at db w).durable) → next_sending w ≡ Some s → may_follow w s ≡ true
   follows w (offers at to) c d e = durable_there w at.db (d at.db)
   follows w (arrives at a) c d e = refl
   follows w (confirms at number cs) c d e =
@@ -367,7 +356,7 @@ module _ (start : World) (sv : IsValidWorld start) (sk : IsSound start) (first :
       le-leb number (database_at o w).durable_seen (omega (arith, within, seen))
 
   -- the step is legal
-  send_on : (w : World) (actor : ℕ) (s : Sending) → is_sender actor ≡ true → HasBegun start actor w → is_due w ≡ false → next_sending w ≡ Some s → may_follow w s ≡ true → (step : Step) × MayStep actor step w (sent actor s w)
+  send_on : (w : World) (actor : ℕ) (s : Sending) → is_sender actor ≡ true → HasBegun On actor w → is_due w ≡ false → next_sending w ≡ Some s → may_follow w s ≡ true → (step : Step) × MayStep actor step w (sent actor s w)
   send_on w actor (offers at to) by k calm e f = (Offer at to, record { by = by; calm = calm; next = e; durable = f; result = refl })
   send_on w actor (arrives at a) by k calm e f =
       (Arrive at a.outcome, record { arriving = a; outcome_is = refl; sends = record { by = by; calm = calm; next = e; durable = f; result = refl } })
@@ -377,120 +366,105 @@ module _ (start : World) (sv : IsValidWorld start) (sk : IsSound start) (first :
   -- behind it the world is on the clock, and one entry of the actor is added
   record HasSent (actor : ℕ) (w new : World) : Type 0 where
     step : Step
-    clock : IsOnClock start new
+    on : On new
     adds : Adds actor step w new
 
-  sent_so : (w : World) (actor : ℕ) (s : Sending) → is_sender actor ≡ true → HasBegun start actor w → is_due w ≡ false → next_sending w ≡ Some s → may_follow w s ≡ true → HasSent actor w (sent actor s w)
+  sent_so : (w : World) (actor : ℕ) (s : Sending) → is_sender actor ≡ true → HasBegun On actor w → is_due w ≡ false → next_sending w ≡ Some s → may_follow w s ≡ true → HasSent actor w (sent actor s w)
   sent_so w actor s by k calm e f =
       let m = send_on w actor s by k calm e f in
-      record { step = m.0; clock = step_on_clock actor m.0 k.clock (k.go m.0) m.1; adds = step_adds actor m.0 w (sent actor s w) m.1 }
+      record { step = m.0; on = step_on actor m.0 k.on (k.go m.0) m.1; adds = step_adds actor m.0 w (sent actor s w) m.1 }
 
-  before_sending : (w : World) (actor : ℕ) (s : Sending) (b : Bool) → may_follow w s ≡ b → is_sender actor ≡ true → IsCalmTurn start actor w → next_sending w ≡ Some s → HasSent actor (if b then w else flushed actor w) (sent actor s (if b then w else flushed actor w))
+  before_sending : (w : World) (actor : ℕ) (s : Sending) (b : Bool) → may_follow w s ≡ b → is_sender actor ≡ true → IsCalmTurn On actor w → next_sending w ≡ Some s → HasSent actor (if b then w else flushed actor w) (sent actor s (if b then w else flushed actor w))
   before_sending w actor s true f by k e = sent_so w actor s by k.begun_so k.calm e f
   before_sending w actor s false f by k e =
-      let x = flushed_so w actor k.begun_so.by k.begun_so.clock in
+      let x = flushed_so w actor k.begun_so.by k.begun_so.on in
       let v = flushed actor w in
-      sent_so v actor s by (record { clock = x.clock; go = go_flush w actor k.begun_so.by k.begun_so.go; by = same_actor v w actor x.sessions k.begun_so.by }) (x.due_same ∙ k.calm) (x.sends ∙ e) (follows v s x.clock x.durable (x.sends ∙ e))
+      sent_so v actor s by (record { on = x.on; go = go_flush w actor k.begun_so.by k.begun_so.go; by = same_actor v w actor x.sessions k.begun_so.by }) (x.due_same ∙ k.calm) (x.sends ∙ e) (follows v s x.on x.durable (x.sends ∙ e))
 
-  propagated_cases : (w : World) (actor : ℕ) (o : Option Sending) → next_sending w ≡ o → is_sender actor ≡ true → IsCalmTurn start actor w → IsOnClock start (propagated_by actor o w)
-  propagated_cases w actor None e by k = k.begun_so.clock
-  propagated_cases w actor (Some s) e by k = (before_sending w actor s (may_follow w s) refl by k e).clock
+  propagated_cases : (w : World) (actor : ℕ) (o : Option Sending) → next_sending w ≡ o → is_sender actor ≡ true → IsCalmTurn On actor w → On (propagated_by actor o w)
+  propagated_cases w actor None e by k = k.begun_so.on
+  propagated_cases w actor (Some s) e by k = (before_sending w actor s (may_follow w s) refl by k e).on
 
-  propagated_on : (w : World) (actor : ℕ) → is_sender actor ≡ true → IsCalmTurn start actor w → IsOnClock start (propagated actor w)
+  propagated_on : (w : World) (actor : ℕ) → is_sender actor ≡ true → IsCalmTurn On actor w → On (propagated actor w)
   unfolding propagated
   propagated_on w actor by k = propagated_cases w actor (next_sending w) refl by k
 
   -- ---- the timer and the propagator
 
-  timer_if : (w : World) (b : Bool) → IsOnClock start w → IsOnClock start (if b then begun 64 (next_reading w) w else w)
-  timer_if w true c = (begun_turn w 64 (or_left (nat_lt 64 (length w.sessions) || true) false (or_right (nat_lt 64 (length w.sessions)) true refl)) c).begun_so.clock
+  timer_if : (w : World) (b : Bool) → On w → On (if b then begun 64 (next_of w) w else w)
+  timer_if w true c = (begun_turn w 64 (or_left (nat_lt 64 (length w.sessions) || true) false (or_right (nat_lt 64 (length w.sessions)) true refl)) c).begun_so.on
   timer_if w false c = c
 
-  pub timer_on : (w : World) → IsOnClock start w → IsOnClock start (next_timer_turn w)
+  pub timer_on : (w : World) → On w → On (timer_turn (next_of w) w)
   unfolding timer_turn
   timer_on w c = timer_if w (any_live w) c
 
   sender_is : (w : World) (actor : ℕ) → is_sender actor ≡ true → is_actor w actor ≡ true
   sender_is w actor e = or_right (nat_lt actor (length w.sessions) || (actor == 64)) (is_sender actor) e
 
-  propagator_if : (w : World) (b : Bool) → IsOnClock start w → IsOnClock start (if b then propagated 65 (begun 65 (next_reading w) w) else w)
-  propagator_if w true c = propagated_on (begun 65 (next_reading w) w) 65 refl (begun_turn w 65 (sender_is w 65 refl) c)
+  propagator_if : (w : World) (b : Bool) → On w → On (if b then propagated 65 (begun 65 (next_of w) w) else w)
+  propagator_if w true c = propagated_on (begun 65 (next_of w) w) 65 refl (begun_turn w 65 (sender_is w 65 refl) c)
   propagator_if w false c = c
 
-  pub propagator_on : (w : World) → IsOnClock start w → IsOnClock start (next_propagator_turn w)
+  pub propagator_on : (w : World) → On w → On (propagator_turn (next_of w) w)
   unfolding propagator_turn
   propagator_on w c = propagator_if w (any_live w) c
-
-  -- ---- rounds
-
-  each_on : (f : ℕ → World → World) (n : ℕ) (w : World) → ((i : ℕ) (v : World) → IsOnClock start v → IsOnClock start (f i v)) → IsOnClock start w → IsOnClock start (each f n w)
-  each_on f zero w k c = c
-  each_on f (suc n) w k c = k n (each f n w) (each_on f n w k c)
-
-  round_on : (w : World) → IsOnClock start w → IsOnClock start (round w)
-  unfolding round
-  round_on w c =
-      let a = session_turns w in
-      let ca = each_on next_session_turn (length w.sessions) w (λ i v x. session_turn_on v i x) c in
-      let b = background_turns a in
-      let cb = propagator_on (next_timer_turn a) (timer_on a ca) in
-      each_on telling_turn (length b.sessions) b (λ i v x. telling_turn_on v i x) cb
-
-  pub rounds_on : (n : ℕ) (w : World) → IsOnClock start w → IsOnClock start (rounds n w)
-  unfolding rounds
-  rounds_on zero w c = c
-  rounds_on (suc n) w c = round_on (rounds n w) (rounds_on n w c)
 
   -- ---- the closing turn
 
   closing_by : (w : World) → is_actor w 66 ≡ true
   closing_by w = sender_is w 66 refl
 
-  closing_cases : (w : World) (o : Option Sending) → next_sending w ≡ o → IsCalmTurn start 66 w → HasBegun start 66 (propagated_by 66 o w)
+  closing_cases : (w : World) (o : Option Sending) → next_sending w ≡ o → IsCalmTurn On 66 w → HasBegun On 66 (propagated_by 66 o w)
   closing_cases w None e k = k.begun_so
   closing_cases w (Some s) e k =
       let x = before_sending w 66 s (may_follow w s) refl refl k e in
       let v = if may_follow w s then w else flushed 66 w in
-      record { clock = x.clock; go = go_closing x.step v (sent 66 s v) x.adds; by = closing_by (sent 66 s v) }
+      record { on = x.on; go = go_closing x.step v (sent 66 s v) x.adds; by = closing_by (sent 66 s v) }
 
-  closing_step : (w : World) → HasBegun start 66 w → HasBegun start 66 (drained_once w)
+  closing_step : (w : World) → HasBegun On 66 w → HasBegun On 66 (drained_once w)
   unfolding propagated
   closing_step w k = closing_cases (caught_up 66 w) (next_sending (caught_up 66 w)) refl (caught_so w 66 k)
 
-  drained_on : (n : ℕ) (w : World) → HasBegun start 66 w → HasBegun start 66 (drained n w)
+  drained_on : (n : ℕ) (w : World) → HasBegun On 66 w → HasBegun On 66 (drained n w)
   unfolding drained
   drained_on zero w k = k
   drained_on (suc n) w k = closing_step (drained n w) (drained_on n w k)
 
-  pub draining_on : (n : ℕ) (w : World) → IsOnClock start w → HasBegun start 66 (drained n (at_closing w))
-  draining_on n w c = drained_on n (at_closing w) (read_so w 66 (closing_by w) c)
+  pub draining_on : (n : ℕ) (w : World) → On w → HasBegun On 66 (drained n (read_clock (next_of w) w))
+  draining_on n w c = drained_on n (read_clock (next_of w) w) (read_so w 66 (closing_by w) c)
 
-  pub closing_on : (n : ℕ) (w : World) → IsOnClock start w → IsOnClock start (next_closing_turn n w)
+  pub closing_on : (n : ℕ) (w : World) → On w → On (closing_turn (next_of w) n w)
   unfolding closing_turn
-  closing_on n w c = let k = draining_on n w c in (flushed_so (drained n (at_closing w)) 66 k.by k.clock).clock
+  closing_on n w c = let k = draining_on n w c in (flushed_so (drained n (read_clock (next_of w) w)) 66 k.by k.on).on
+
+  -- it ends with a flush
+  pub closing_flushed : (n : ℕ) (w : World) → On w → IsFlushed (drained n (read_clock (next_of w) w)) (closing_turn (next_of w) n w)
+  unfolding closing_turn
+  closing_flushed n w c = let k = draining_on n w c in flushed_so (drained n (read_clock (next_of w) w)) 66 k.by k.on
 
   -- ---- turns that are broken off
 
-  pub read_on : (w : World) → IsOnClock start w → IsOnClock start (read_clock (next_reading w) w)
-  read_on w c = read_on_clock start w c
+  pub read_on : (w : World) → On w → On (read_clock (next_of w) w)
+  read_on w c = goes.read w c
 
-  pub begun_on : (w : World) (actor : ℕ) → is_actor w actor ≡ true → IsOnClock start w → IsOnClock start (begun actor (next_reading w) w)
-  begun_on w actor by c = (begun_turn w actor by c).begun_so.clock
+  pub begun_on : (w : World) (actor : ℕ) → is_actor w actor ≡ true → On w → On (begun actor (next_of w) w)
+  begun_on w actor by c = (begun_turn w actor by c).begun_so.on
 
-  pub flushed_on : (w : World) (actor : ℕ) → is_actor w actor ≡ true → IsOnClock start w → IsOnClock start (flushed actor w)
-  flushed_on w actor by c = (flushed_so w actor by c).clock
+  pub flushed_on : (w : World) (actor : ℕ) → is_actor w actor ≡ true → On w → On (flushed actor w)
+  flushed_on w actor by c = (flushed_so w actor by c).on
 
-  pub begun_flushed_on : (w : World) (actor : ℕ) → is_actor w actor ≡ true → IsOnClock start w → IsOnClock start (flushed actor (begun actor (next_reading w) w))
-  begun_flushed_on w actor by c = let k = begun_turn w actor by c in flushed_on (begun actor (next_reading w) w) actor k.begun_so.by k.begun_so.clock
+  pub begun_flushed_on : (w : World) (actor : ℕ) → is_actor w actor ≡ true → On w → On (flushed actor (begun actor (next_of w) w))
+  begun_flushed_on w actor by c = let k = begun_turn w actor by c in flushed_on (begun actor (next_of w) w) actor k.begun_so.by k.begun_so.on
 
   -- the closing turn, while it drains
-  pub drains_on : (n : ℕ) (w : World) → IsOnClock start w → IsOnClock start (drained n (at_closing w))
-  drains_on n w c = (draining_on n w c).clock
+  pub drains_on : (n : ℕ) (w : World) → On w → On (drained n (read_clock (next_of w) w))
+  drains_on n w c = (draining_on n w c).on
 
-  pub drains_caught_on : (n : ℕ) (w : World) → IsOnClock start w → IsOnClock start (caught_up 66 (drained n (at_closing w)))
-  drains_caught_on n w c = (caught_so (drained n (at_closing w)) 66 (draining_on n w c)).begun_so.clock
+  pub drains_caught_on : (n : ℕ) (w : World) → On w → On (caught_up 66 (drained n (read_clock (next_of w) w)))
+  drains_caught_on n w c = (caught_so (drained n (read_clock (next_of w) w)) 66 (draining_on n w c)).begun_so.on
 
-  pub drains_flushed_on : (n : ℕ) (w : World) → IsOnClock start w → IsOnClock start (flushed 66 (caught_up 66 (drained n (at_closing w))))
+  pub drains_flushed_on : (n : ℕ) (w : World) → On w → On (flushed 66 (caught_up 66 (drained n (read_clock (next_of w) w))))
   drains_flushed_on n w c =
-      let k = caught_so (drained n (at_closing w)) 66 (draining_on n w c) in
-      flushed_on (caught_up 66 (drained n (at_closing w))) 66 k.begun_so.by k.begun_so.clock
+      let k = caught_so (drained n (read_clock (next_of w) w)) 66 (draining_on n w c) in
+      flushed_on (caught_up 66 (drained n (read_clock (next_of w) w))) 66 k.begun_so.by k.begun_so.on

@@ -1,10 +1,13 @@
 pub mod Adding
 pub mod Began
 pub mod Calling
+pub mod Done
 pub mod Ended
 pub mod Growing
 pub mod Legally
+pub mod OnClock
 pub mod Oneness
+pub mod OnReadings
 pub mod Ordering
 pub mod Parts
 pub mod Resting

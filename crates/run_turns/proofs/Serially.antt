@@ -14,7 +14,7 @@ use Rattle.run_laws.proofs.Worlds.{opens_valid}
 use Rattle.run_turns.proofs.Adding.{step_adds}
 use Rattle.run_turns.proofs.Calling.{entries-opened}
 use Rattle.run_turns.proofs.Sounding.{opened_sound}
-use Rattle.run_turns.proofs.Legally.{IsOnClock, rounds_on, draining_on, closing_on}
+use Rattle.run_turns.proofs.OnClock.{IsOnClock, rounds_on, draining_on, closing_on}
 
 -- ---- first entries of a legal history
 
@@ -71,7 +71,7 @@ opening-opened : (home away : Tables) (scripts : List SessionScript) → (opened
 unfolding opened
 opening-opened home away scripts = refl
 
-opened_on : (home away : Tables) (scripts : List SessionScript) → IsOnClock (opened home away scripts) (opened home away scripts)
+pub opened_on : (home away : Tables) (scripts : List SessionScript) → IsOnClock (opened home away scripts) (opened home away scripts)
 opened_on home away scripts =
     let start = opened home away scripts in
     record { legal = subst (λ n. IsLegal start (step_readings start.opening n) start) (sym (readings-opened home away scripts)) opens; opening = refl }
@@ -87,7 +87,7 @@ module _ (home away : Tables) (scripts : List SessionScript) (b : MayBegin home 
   closing_here n k = closing_on start (opens_valid home away scripts b) (opened_sound home away scripts) (entries-opened home away scripts) k (rounds n start) (rounds_here n)
 
   draining_here : (n k : ℕ) → IsOnClock start (drained k (at_closing (rounds n start)))
-  draining_here n k = (draining_on start (opens_valid home away scripts b) (opened_sound home away scripts) (entries-opened home away scripts) k (rounds n start) (rounds_here n)).clock
+  draining_here n k = draining_on start (opens_valid home away scripts b) (opened_sound home away scripts) (entries-opened home away scripts) k (rounds n start) (rounds_here n)
 
   front_of : (w : World) (es : List Entry) → IsOnClock start w → IsFront es w.entries → AreLegal start es
   front_of w es c f = legal_front start (step_readings start.opening w.readings) w es (entries-opened home away scripts) c.legal f

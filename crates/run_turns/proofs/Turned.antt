@@ -213,7 +213,7 @@ unfolding drained
 sessions-drained zero w = refl
 sessions-drained (suc n) w = sessions-propagated 66 (caught_up 66 (drained n w)) ∙ sessions-caught_up 66 (drained n w) ∙ sessions-drained n w
 
-sessions-closing : (reading n : ℕ) (w : World) → (closing_turn reading n w).sessions ≡ w.sessions
+pub sessions-closing : (reading n : ℕ) (w : World) → (closing_turn reading n w).sessions ≡ w.sessions
 unfolding closing_turn
 sessions-closing reading n w = sessions-flushed 66 (drained n (read_clock reading w)) ∙ sessions-drained n (read_clock reading w) ∙ sessions-read reading w
 

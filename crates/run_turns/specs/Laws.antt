@@ -1,11 +1,13 @@
 -- The laws of the serial history, and of the calls of every legal one.
-use Rattle.std.specs.Prelude.{◌≡◌, ℕ, List, map, true, false}
+use Rattle.std.specs.Prelude.{◌≡◌, ℕ, List, Some, map, true, false, slice_get}
 use Rattle.queue_rows.specs.World.{uncounted, World, opened}
-use Rattle.queue_rows.specs.Turns.{step_readings, any_live, is_still, drained_once}
+use Rattle.queue_rows.specs.Turns.{step_readings, any_live, is_durable, is_still, drained_once}
 use Rattle.queue_rows.specs.Order.{CallsAll, CallsInOrder}
 use Rattle.queue_rows.specs.declared.tables.Tables.{Tables}
+use Rattle.queue_rows.specs.declared.history.Entry.{Entry}
 use Rattle.queue_rows.specs.declared.history.History.{History}
 use Rattle.queue_rows.specs.declared.history.SessionScript.{SessionScript}
+use Rattle.queue_rows.specs.declared.history.Step.TheVariants.{End}
 use Rattle.world_laws.specs.WorldLaws.{MayBegin}
 use Rattle.queue_rows.specs.Serial.{round, IsSerial, IsSerialFront}
 use Rattle.queue_rows.specs.Legal.{IsLegal, IsLegalBy, IsLegalHistory}
@@ -39,3 +41,31 @@ SerialIsLegal = (home away : Tables) (scripts : List SessionScript) (h : History
 abbrev pub SerialFrontIsLegal : Type 0
 SerialFrontIsLegal = (home away : Tables) (scripts : List SessionScript) (h : History) → MayBegin home away scripts → IsSerialFront home away scripts h
     → IsLegalHistory home away scripts h
+
+-- the session of that number has its End among the entries
+pub record HasEnd (i : ℕ) (entries : List Entry) : Type 0 where
+  pub number : ℕ
+  pub entry : Entry
+  pub there : slice_get entries number ≡ Some entry
+  pub by : entry.actor ≡ i
+  pub is : entry.step ≡ End
+
+abbrev pub EndsAll : History → Type 0
+EndsAll h = (i : ℕ) (script : SessionScript) → slice_get h.scripts i ≡ Some script → HasEnd i h.entries
+
+-- Legal steps led to a world in which no session goes on, every commit is durable, nothing is due and nothing can be sent; and each
+-- session has its End.
+pub record IsAllDone (home away : Tables) (scripts : List SessionScript) (h : History) : Type 0 where
+  pub readings : List ℕ
+  pub end : World
+  pub legal : IsLegal (opened home away scripts) readings end
+  pub entries_are : map uncounted h.entries ≡ end.entries
+  pub over : any_live end ≡ false
+  pub durable : is_durable end ≡ true
+  pub still : is_still end ≡ true
+  pub ends : EndsAll h
+
+-- so it is at the end of the serial history
+abbrev pub SerialIsDone : Type 0
+SerialIsDone = (home away : Tables) (scripts : List SessionScript) (h : History) → MayBegin home away scripts → IsSerial home away scripts h
+    → IsAllDone home away scripts h

@@ -4,6 +4,7 @@ ghost use Rattle.run_turns.specs.Laws.{
   LegalCallsInOrder,
   SerialCallsAll,
   SerialFrontIsLegal,
+  SerialIsDone,
   SerialIsLegal,
   SerialIsOne,
   StillStays,
@@ -42,4 +43,9 @@ pub fn serial_is_legal()
 /// The first part of a serial history is legal.
 pub fn serial_front_is_legal()
     ensures { SerialFrontIsLegal }
+{}
+
+/// When the serial schedule has come to its end, each session has its End, every commit is durable, and nothing is due or can be sent.
+pub fn serial_is_done()
+    ensures { SerialIsDone }
 {}

@@ -6,6 +6,6 @@
 mod laws;
 
 pub use laws::{
-    ended_stays, legal_calls_in_order, serial_calls_all, serial_front_is_legal, serial_is_legal,
-    serial_is_one, still_stays,
+    ended_stays, legal_calls_in_order, serial_calls_all, serial_front_is_legal, serial_is_done,
+    serial_is_legal, serial_is_one, still_stays,
 };
