@@ -1,6 +1,6 @@
 -- Marks in the groups of their slots stay there, and show the groups.
 use Rattle.std.proofs.Common.{◌≡◌, ◌⊎◌, inl, inr, ℕ, List, [], ◌∷◌, true, false, refl, sym, ap, ◌∙◌, Option, Some, None, ◌==◌, ◌&&◌, get_or}
-use Rattle.std.specs.Prelude.{option_and_then, IfSome, All, slice_get, if◌then◌else◌}
+use Rattle.std.specs.Prelude.{option_and_then, IfSome, All, if◌then◌else◌}
 use Rattle.std.specs.List.{list_any}
 use Rattle.std.specs.Option.{option_eq, option_map_or}
 use Rattle.std.specs.Str.{bytes_eq}

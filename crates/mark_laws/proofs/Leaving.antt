@@ -1,9 +1,8 @@
 -- What a statement that is answered leaves of the marks of its session and of the tables of queues.
-use Rattle.std.proofs.Common.{◌≡◌, ◌≢◌, ◌≤◌, ◌+◌, ◌⊎◌, inl, inr, ℕ, List, [], ◌∷◌, Bool, true, false, refl, sym, ap, ◌∙◌, subst, arith, Option, Some, None, Ok, Err}
-use Rattle.std.specs.Prelude.{slice_get, slice_set, map}
+use Rattle.std.proofs.Common.{◌≡◌, ◌≤◌, ◌⊎◌, inl, inr, ℕ, List, [], ◌∷◌, Bool, true, false, refl, sym, ap, ◌∙◌, subst, arith, Option, Some, None, Ok, Err}
+use Rattle.std.specs.Prelude.{slice_get}
 use Rattle.std.specs.List.{list_any}
 use Rattle.std.proofs.lemmas.Bool.{false≢true}
-use Rattle.std.proofs.lemmas.Option.{slice_get_within}
 use Rattle.std.proofs.lemmas.List.Elements.{All-nil, All-cons}
 use Rattle.aq_base.specs.declared.DbId.{DbId}
 use Rattle.aq_base.specs.declared.limits.TheConstants.{MOMENT_LIMIT}
@@ -17,7 +16,6 @@ use Rattle.queue_rows.specs.Settling.{settled}
 use Rattle.queue_rows.specs.Transactions.{commit, rollback, rollback_of}
 use Rattle.queue_rows.specs.Statements.{meaning, slot_sent}
 use Rattle.queue_rows.specs.World.{World, database_at, committed_tables}
-use Rattle.queue_rows.specs.Legal.{opens}
 use Rattle.queue_rows.specs.Within.{is_within}
 use Rattle.queue_rows.specs.Valid.{is_valid}
 use Rattle.queue_rows.specs.declared.tables.Tables.{Tables}

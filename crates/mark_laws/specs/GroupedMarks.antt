@@ -1,5 +1,5 @@
 -- Which marks stand in the groups of their slots.
-use Rattle.std.specs.Prelude.{◌≡◌, ℕ, List, Option, Some, All, slice_get, option_and_then}
+use Rattle.std.specs.Prelude.{◌≡◌, ℕ, List, Option, All, option_and_then}
 use Rattle.slot_marks.specs.declared.mark.Group.{Group}
 use Rattle.slot_marks.specs.declared.mark.Mark.{Mark}
 use Rattle.queue_rows.specs.Rows.{find_message}

@@ -2,17 +2,16 @@
 use Rattle.std.proofs.Common.{◌≡◌, ◌≤◌, ℕ, List, [], ◌∷◌, Bool, true, false, not, length, refl, sym, ap, ◌∙◌, subst, arith, Option, Some, None, Result, Ok, Err, ◌==◌, ◌&&◌, ◌||◌}
 use Rattle.std.specs.Prelude.{find, filter, nat_le, is_some, is_none, unwrap_or, option_and_then, if◌then◌else◌}
 use Rattle.std.specs.List.{list_any}
-use Rattle.std.specs.Option.{option_map_or, option_eq}
+use Rattle.std.specs.Option.{option_map_or}
 use Rattle.std.specs.Str.{bytes_eq}
 use Rattle.std.proofs.lemmas.Bool.{cond_both, and_parts, and_from, or_parts, not_from_false, false_from_ne_true, false≢true, true≢false}
-use Rattle.std.proofs.lemmas.Option.{none-some}
 use Rattle.aq_base.specs.declared.DbId.{DbId}
 use Rattle.aq_base.specs.declared.limits.TheConstants.{MOMENT_LIMIT, SUBSCRIBER_LIMIT}
 use Rattle.payload_records.specs.declared.kind.Field.{Field}
 use Rattle.place_keys.specs.declared.sort_list.Column.{Column}
 use Rattle.rule_conditions.specs.declared.condition.Cond.{Cond}
-use Rattle.queue_rows.specs.Rows.{find_message, find_table, find_queue, find_sub, find_schedule, is_sub, is_schedule, exception_name, slot_of, is_same_schedule}
-use Rattle.queue_rows.specs.Tables.{after_change, after_all, after, drop_queue, drop_table}
+use Rattle.queue_rows.specs.Rows.{find_table, find_queue, find_sub, find_schedule, is_sub, is_schedule, exception_name, slot_of, is_same_schedule}
+use Rattle.queue_rows.specs.Tables.{after_change, after, drop_queue, drop_table}
 use Rattle.queue_rows.specs.Settling.{is_exception, settled}
 use Rattle.queue_rows.specs.Catalog as c
 use Rattle.queue_rows.specs.Catalog.{Judged, judged, is_table_used, is_queue_used, new_queue, started, stopped, has_subscribers, fresh_schedule, dropped_in}
@@ -22,7 +21,6 @@ use Rattle.queue_rows.specs.Session.{Session, is_same_db, is_same_consumer}
 use Rattle.queue_rows.specs.Administration.{Affected, is_affected_at, is_sent, is_outstanding, works_on, in_queue, of_subscriber, to_destination, is_hindered}
 use Rattle.queue_rows.specs.Propagating.{goes_to, is_schedule_of}
 use Rattle.queue_rows.specs.World.{committed_tables}
-use Rattle.queue_rows.specs.Within.{is_within}
 use Rattle.queue_rows.specs.Valid.{is_valid}
 use Rattle.queue_rows.specs.declared.tables.Tables.{Tables}
 use Rattle.queue_rows.specs.declared.rows.TableRow.{TableRow}
@@ -30,7 +28,6 @@ use Rattle.queue_rows.specs.declared.rows.QueueRow.{QueueRow}
 use Rattle.queue_rows.specs.declared.rows.QueueKind.{QueueKind}
 use Rattle.queue_rows.specs.declared.rows.SubRow.{SubRow}
 use Rattle.queue_rows.specs.declared.rows.ScheduleRow.{ScheduleRow}
-use Rattle.queue_rows.specs.declared.rows.MsgRow.{MsgRow}
 use Rattle.queue_rows.specs.declared.rows.SlotRow.{SlotRow}
 use Rattle.queue_rows.specs.declared.history.SlotRef.{SlotRef}
 use Rattle.queue_rows.specs.declared.change.Change.{Change}
@@ -38,15 +35,14 @@ use Rattle.queue_rows.specs.declared.change.Change.TheVariants as changes
 use Rattle.queue_rows.specs.declared.reply.ConditionFault.{ConditionFault}
 use Rattle.queue_rows.specs.declared.statement.Admin.{Admin}
 use Rattle.queue_rows.specs.declared.statement.Admin.TheVariants as asks
-use Rattle.queue_rows.specs.declared.statement.Statement.TheVariants as statements
 use Rattle.row_laws.proofs.Finding.{found_is, find-yes, find-no, filter-yes, filter-no, find_filter, find_other_removed, kept}
 use Rattle.row_laws.proofs.Distinctly.{single_if_distinct}
 use Rattle.valid_laws.specs.Touching.{puts_in}
 use Rattle.valid_laws.proofs.Parts.{valid_distinct}
 use Rattle.valid_laws.proofs.Placing.{find_put, find_other_put}
-use Rattle.valid_laws.proofs.Cataloguing.{same_name, own_name, turned}
+use Rattle.valid_laws.proofs.Cataloguing.{same_name, own_name}
 use Rattle.valid_laws.proofs.Making.{one_settles}
-use Rattle.valid_laws.proofs.Judging.{none_of, some_of}
+use Rattle.valid_laws.proofs.Judging.{some_of}
 use Rattle.valid_laws.proofs.Dropping.{subscriber_goes}
 use Rattle.valid_laws.proofs.Going.{proper_if_goes}
 use Rattle.statement_laws.proofs.Administering.{removal_clear, removal_none}

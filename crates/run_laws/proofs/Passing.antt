@@ -1,16 +1,14 @@
 -- What statements commit passes a slot that goes to the other database by.
-use Rattle.std.proofs.Common.{◌≡◌, ◌≤◌, ℕ, List, [], ◌∷◌, ◌++◌, Bool, true, false, not, refl, sym, ap, ◌∙◌, subst, Option, Some, None, ◌==◌, ◌&&◌, ◌||◌}
-use Rattle.std.specs.Prelude.{slice_get, flat_map}
+use Rattle.std.proofs.Common.{◌≡◌, ℕ, List, [], ◌∷◌, Bool, true, false, refl, sym, ap, ◌∙◌, subst, Option, ◌==◌, ◌&&◌}
+use Rattle.std.specs.Prelude.{flat_map}
 use Rattle.std.specs.List.{list_any}
-use Rattle.std.specs.Str.{bytes_eq}
-use Rattle.std.proofs.lemmas.Bool.{eqb-true, and_parts, or_from, false_from_ne_true, false≢true, true≢false}
-use Rattle.aq_base.specs.declared.limits.TheConstants.{MOMENT_LIMIT}
+use Rattle.std.proofs.lemmas.Bool.{eqb-true, and_parts, or_from, false_from_ne_true, true≢false}
 use Rattle.rule_conditions.specs.declared.condition.Cond.{Cond}
-use Rattle.queue_rows.specs.Rows.{find_message, find_queue, find_table}
+use Rattle.queue_rows.specs.Rows.{find_message}
 use Rattle.queue_rows.specs.Tables.{after_change}
-use Rattle.queue_rows.specs.Settling.{settling, settled, names_of}
+use Rattle.queue_rows.specs.Settling.{settling, names_of}
 use Rattle.queue_rows.specs.Commits.{completed, changes_from, commit_of}
-use Rattle.queue_rows.specs.Session.{Session, is_same_db, marks_slot}
+use Rattle.queue_rows.specs.Session.{Session, marks_slot}
 use Rattle.queue_rows.specs.Meaning.{answers}
 use Rattle.queue_rows.specs.Dequeueing as d
 use Rattle.queue_rows.specs.Transactions.{retry_of, rollback_of}
@@ -39,9 +37,9 @@ use Rattle.statement_laws.specs.EnqueueLaws.{AddsIn, Adds}
 use Rattle.statement_laws.proofs.Among.{Says}
 use Rattle.statement_laws.proofs.Framing.{removed_marked}
 use Rattle.statement_laws.proofs.Naming.{commit_names}
-use Rattle.history_fates.specs.LocalMarks.{is_remote_at, MarksAreLocal}
+use Rattle.history_fates.specs.LocalMarks.{is_remote_at}
 use Rattle.history_fates.proofs.Looking.{may_take_local}
-use Rattle.mark_laws.proofs.Looking.{IsCandidate, look_at, dequeue_so}
+use Rattle.mark_laws.proofs.Looking.{look_at, dequeue_so}
 use Rattle.run_laws.proofs.Resting.{touches}
 
 -- the changes name no slot that goes to the other database, and leave schedules

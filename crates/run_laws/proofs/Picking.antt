@@ -1,10 +1,10 @@
 -- What is picked to be sent is as a slot that is being sent is.
-use Rattle.std.proofs.Common.{◌≡◌, ◌≤◌, ℕ, List, [], ◌∷◌, Bool, true, false, not, refl, sym, ap, ◌∙◌, subst, Option, Some, None, ◌==◌, ◌&&◌, ◌||◌}
+use Rattle.std.proofs.Common.{◌≡◌, ℕ, List, [], ◌∷◌, Bool, true, false, not, refl, sym, ap, ◌∙◌, subst, Option, Some, None, ◌&&◌}
 use Rattle.std.specs.Prelude.{find, filter, filter_map, slice_get, option_map, option_and_then, is_some, nat_le, if◌then◌else◌}
-use Rattle.std.specs.List.{list_any, list_all, cons_option}
+use Rattle.std.specs.List.{list_any, cons_option}
 use Rattle.std.specs.Option.{option_map_or}
 use Rattle.std.specs.Str.{bytes_eq}
-use Rattle.std.proofs.lemmas.Bool.{and_parts, and_from, or_parts, leb-true, not-true, false≢true, true≢false}
+use Rattle.std.proofs.lemmas.Bool.{and_parts, and_from, leb-true, not-true, false≢true}
 use Rattle.std.proofs.lemmas.Option.{none-some}
 use Rattle.aq_base.specs.declared.DbId.{DbId}
 use Rattle.aq_base.specs.declared.limits.TheConstants.{MOMENT_LIMIT}
@@ -26,7 +26,7 @@ use Rattle.queue_rows.specs.declared.statement.Navigation.TheVariants.{First}
 use Rattle.row_laws.proofs.Finding.{found_is, find-yes, find-no}
 use Rattle.valid_laws.proofs.Parts.{parts_of, all_found, six_parts, valid_distinct}
 use Rattle.valid_laws.proofs.Cataloguing.{same_name, own_name}
-use Rattle.statement_laws.proofs.Among.{Each, each_both, each_map, each_not, each_filtered, IsFoundIn, each_found}
+use Rattle.statement_laws.proofs.Among.{Each, each_both, each_not, each_filtered, IsFoundIn, each_found}
 use Rattle.statement_laws.proofs.Taking.{Chooses, choice_chooses}
 use Rattle.run_laws.specs.ValidRun.{IsBeingSent}
 use Rattle.run_laws.proofs.Hindering.{find_agree, same_schedules}

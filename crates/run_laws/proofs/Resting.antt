@@ -1,11 +1,9 @@
 -- A slot that is being sent stays as it is while changes do not name it.
-use Rattle.std.proofs.Common.{◌≡◌, ◌≢◌, ◌≤◌, ℕ, List, [], ◌∷◌, Bool, true, false, not, refl, sym, ap, ◌∙◌, subst, Option, Some, None, ◌==◌, ◌&&◌, length}
-use Rattle.std.specs.Prelude.{find, option_map, option_and_then, is_some, is_none, if◌then◌else◌}
+use Rattle.std.proofs.Common.{◌≡◌, ◌≤◌, ℕ, List, [], ◌∷◌, Bool, true, false, not, refl, sym, ap, ◌∙◌, subst, Option, Some, None, ◌==◌, ◌&&◌, length}
+use Rattle.std.specs.Prelude.{find, option_and_then, is_some, is_none, if◌then◌else◌}
 use Rattle.std.specs.List.{list_any}
 use Rattle.std.specs.Option.{option_map_or}
-use Rattle.std.specs.Str.{bytes_eq}
-use Rattle.std.proofs.lemmas.Bool.{eqb-true, eqb-false, eq-eqb, and_parts, or_parts, or_right, not-true, false≢true, true≢false}
-use Rattle.std.proofs.lemmas.Option.{none-some}
+use Rattle.std.proofs.lemmas.Bool.{eqb-true, eqb-false, eq-eqb, and_parts, or_parts, or_right, true≢false}
 use Rattle.queue_rows.specs.Rows.{find_message, find_queue, find_table, with_slot, slot_of}
 use Rattle.queue_rows.specs.Tables.{after_change, after_all, after, drop_table, move_in, move_some, in_state, retried, moved_to}
 use Rattle.queue_rows.specs.Settling.{is_open, is_ready, if_it, left_by}

@@ -1,32 +1,26 @@
 -- Due work, arrivals and confirmations leave a database right.
-use Rattle.std.proofs.Common.{◌≡◌, ◌≢◌, ◌≤◌, ◌<◌, ◌+◌, ◌⊎◌, inl, inr, ℕ, List, [], ◌∷◌, Bool, true, false, not, max, min, refl, sym, ap, ◌∙◌, subst, arith, Option, Some, None, ◌==◌, ◌&&◌, ◌||◌, length}
-use Rattle.std.specs.Prelude.{find, slice_get, option_and_then, is_some, nat_le, ◌^◌, if◌then◌else◌}
+use Rattle.std.proofs.Common.{◌≡◌, ◌≢◌, ◌≤◌, ◌<◌, ◌+◌, ℕ, List, [], ◌∷◌, Bool, true, false, not, refl, sym, ap, ◌∙◌, arith, Option, Some, None, ◌==◌, ◌&&◌}
+use Rattle.std.specs.Prelude.{find, option_and_then, nat_le, if◌then◌else◌}
 use Rattle.std.specs.List.{list_any, list_all}
-use Rattle.std.specs.Option.{option_map_or}
-use Rattle.std.specs.Str.{bytes_eq}
-use Rattle.std.proofs.lemmas.Bool.{eqb-true, eqb-false, eq-eqb, ne_eqb, and_parts, and_from, or_parts, or_from, or_left, leb-true, le-leb, false_from_ne_true, false≢true, true≢false}
-use Rattle.std.proofs.lemmas.Option.{none-some}
+use Rattle.std.proofs.lemmas.Bool.{eqb-true, eqb-false, eq-eqb, ne_eqb, and_parts, and_from, or_parts, or_from, or_left, le-leb, true≢false}
 use Rattle.aq_base.specs.declared.DbId.{DbId}
 use Rattle.aq_base.specs.declared.limits.TheConstants.{MOMENT_LIMIT, NEXT_LIMIT}
-use Rattle.queue_rows.specs.Rows.{find_message, find_queue, find_table, table_of, slot_of}
-use Rattle.queue_rows.specs.Tables.{after_change, after_all, after}
-use Rattle.queue_rows.specs.Settling.{settled}
-use Rattle.queue_rows.specs.Session.{Session, is_same_db, marks_slot}
-use Rattle.queue_rows.specs.Due.{Watch, is_left, is_sent, is_slot_at, is_held_by_any, group_in, due_slot, due_slots, slot_numbers, due}
-use Rattle.queue_rows.specs.Propagating.{Parcel, Dispatch, goes_to, is_schedule_of, dispatch_by, dispatch_of_slot, dispatch_of, dispatch, taken_in, taken_in_by, copy_of, is_last_failure, delayed, confirming}
+use Rattle.queue_rows.specs.Rows.{find_table, table_of, slot_of}
+use Rattle.queue_rows.specs.Tables.{after}
+use Rattle.queue_rows.specs.Session.{Session, is_same_db}
+use Rattle.queue_rows.specs.Due.{Watch, is_left, is_sent, is_held_by_any, group_in, due_slot, due_slots, slot_numbers, due}
+use Rattle.queue_rows.specs.Propagating.{Parcel, Dispatch, is_schedule_of, dispatch_by, dispatch_of_slot, dispatch_of, dispatch, taken_in, taken_in_by, copy_of, delayed, confirming}
 use Rattle.queue_rows.specs.Within.{if_some, is_time, is_span}
 use Rattle.queue_rows.specs.World.{committed_tables}
 use Rattle.queue_rows.specs.Valid.{is_valid, is_valid_schedule, takes_subscribers, has_right_failures}
 use Rattle.queue_rows.specs.Fits.{fits}
 use Rattle.queue_rows.specs.declared.tables.Tables.{Tables}
-use Rattle.queue_rows.specs.declared.rows.TableRow.{TableRow}
 use Rattle.queue_rows.specs.declared.rows.MsgRow.{MsgRow}
 use Rattle.queue_rows.specs.declared.rows.SlotRow.{SlotRow}
 use Rattle.queue_rows.specs.declared.rows.ScheduleRow.{ScheduleRow}
 use Rattle.queue_rows.specs.declared.change.Change.{Change}
 use Rattle.queue_rows.specs.declared.change.Change.TheVariants as changes
 use Rattle.queue_rows.specs.declared.history.SlotRef.{SlotRef}
-use Rattle.valid_laws.specs.Openness.{is_open_at}
 use Rattle.valid_laws.specs.Touching.{is_of_slot, puts_in, are_proper}
 use Rattle.valid_laws.specs.ArrivalLaws.{MayTakeIn}
 use Rattle.valid_laws.proofs.Arriving.{arrival_fits, confirmation_fits}
@@ -52,7 +46,6 @@ use Rattle.history_fates.proofs.Sending.{sent_is_remote}
 use Rattle.history_fates.proofs.Staying.{local_committed}
 use Rattle.run_laws.specs.ValidRun.{IsBeingSent}
 use Rattle.run_laws.proofs.Resting.{touches, sent_open, sent_rests}
-use Rattle.run_laws.proofs.Hindering.{put_schedule_sent}
 
 -- ---- what commits of no session leave
 

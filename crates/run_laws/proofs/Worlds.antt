@@ -1,5 +1,5 @@
 -- Worlds begin valid, and each reading and each legal step leaves them so.
-use Rattle.std.proofs.Common.{◌≡◌, ◌≢◌, ◌≤◌, ◌+◌, ◌⊎◌, inl, inr, ℕ, List, [], ◌∷◌, Bool, true, false, max, refl, sym, ap, ◌∙◌, subst, arith, Option, Some, None, ◌==◌}
+use Rattle.std.proofs.Common.{◌≡◌, ◌≢◌, ◌≤◌, ◌+◌, ◌⊎◌, inl, inr, ℕ, List, [], Bool, true, false, max, refl, sym, ap, ◌∙◌, subst, arith, Option, Some, None}
 use Rattle.std.specs.Prelude.{slice_get, slice_set, map, min, option_map, if◌then◌else◌}
 use Rattle.std.specs.List.{list_any}
 use Rattle.std.proofs.lemmas.Bool.{false≢true}
@@ -8,7 +8,7 @@ use Rattle.aq_base.specs.declared.DbId.{DbId}
 use Rattle.aq_base.specs.declared.DbId.TheVariants.{Home, Away}
 use Rattle.aq_base.specs.declared.limits.TheConstants.{MOMENT_LIMIT}
 use Rattle.queue_rows.specs.Session.{Session, is_same_db, marks_slot}
-use Rattle.queue_rows.specs.Propagating.{Dispatch, dispatch, Arriving, arriving, confirming}
+use Rattle.queue_rows.specs.Propagating.{Dispatch, dispatch, Arriving, confirming}
 use Rattle.queue_rows.specs.World.{greatest_moment, fresh, at_home, at_away, committed_tables, commits_in, other_db, World, Stage, on_its_way, came, Transit, database_at, opened, read_clock, stepped, with_session}
 use Rattle.queue_rows.specs.Valid.{is_valid_schedule}
 use Rattle.queue_rows.specs.declared.tables.Tables.{Tables}

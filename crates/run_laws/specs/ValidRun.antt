@@ -1,5 +1,5 @@
 -- What holds of a world at each moment of a legal history.
-use Rattle.std.specs.Prelude.{◌≡◌, ◌≤◌, ℕ, List, true, find, is_some, Some}
+use Rattle.std.specs.Prelude.{◌≡◌, ◌≤◌, true, find, is_some, Some}
 use Rattle.aq_base.specs.declared.DbId.{DbId}
 use Rattle.aq_base.specs.declared.limits.TheConstants.{MOMENT_LIMIT}
 use Rattle.queue_rows.specs.Rows.{find_message, slot_of}
