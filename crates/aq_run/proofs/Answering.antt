@@ -10,7 +10,7 @@ use Rattle.queue_rows.specs.declared.tables.Tables.{Tables}
 use Rattle.transcript.specs.Print.{print}
 use Rattle.aq_world.specs.Mounting.{RecoversTo, IsRecovered}
 use Rattle.aq_run.specs.Disks.{LeavesWhole}
-use Rattle.aq_run.specs.Serve.{empty_history, AnswersDamaged, AnswersRun, HoldsOf, IsRun, LeavesDisks, PlaysOver, Tells, WritesFront}
+use Rattle.aq_run.specs.Serve.{empty_history, AnswersDamaged, AnswersRun, HoldsOf, IsAllDoneAfter, IsRun, LeavesDisks, PlaysOver, Tells, WritesFront}
 use Rattle.aq_run.specs.declared.outcome.Outcome.{Outcome}
 use Rattle.aq_run.specs.declared.play.Played.{Played}
 use Rattle.aq_run.specs.declared.play.RunEnd.TheVariants as ends
@@ -52,7 +52,7 @@ module _ {S D : Type 0} (taken : S → Option (List ℕ)) (sink_faults : S → �
   empty_at : (s : ℕ) (h : History) → h ≡ empty_history → (s ≡ 2) ⊎ ((s ≡ 3) ⊎ (s ≡ 6)) → h ≡ empty_history
   empty_at s h e _ = e
 
-  pub unbegun_answers : (o : Outcome D) → 1 ≤ o.status → o.status ≤ 4 → (o.status ≡ 4 → taken new ≡ taken old) → o.history ≡ empty_history → HoldsOf o.history → LeavesDisks seen images calls faults home away o
+  pub unbegun_answers : {C : Type 0} (o : Outcome D C) → 1 ≤ o.status → o.status ≤ 4 → (o.status ≡ 4 → taken new ≡ taken old) → o.history ≡ empty_history → HoldsOf o.history → LeavesDisks seen images calls faults home away o
       → AnswersRun taken sink_faults seen images calls faults old new home away o
   unbegun_answers o some few same empty holds disks = record {
     whole = λ is. absurd (omega (arith, some, is));
@@ -63,6 +63,7 @@ module _ {S D : Type 0} (taken : S → Option (List ℕ)) (sink_faults : S → �
     recovered = λ is. run_is_none o.status some (omega (arith, few)) is;
     empty = λ _. empty;
     holds = holds;
+    done = λ is. run_is_none o.status some (omega (arith, few)) is;
     disks = disks;
     home_whole = λ is. run_is_none o.status some (omega (arith, few)) is;
     away_whole = λ is. run_is_none o.status some (omega (arith, few)) is;
@@ -79,7 +80,7 @@ module _ {S D : Type 0} (taken : S → Option (List ℕ)) (sink_faults : S → �
   unmounted_part s text few same (inl e) = quiet_front taken sink_faults old new (same (inl e)) text
   unmounted_part s text few same (inr e) = absurd (omega (arith, few, e))
 
-  pub unmounted_answers : (o : Outcome D) → (o.status ≡ 4) ⊎ ((o.status ≡ 5) ⊎ (o.status ≡ 6)) → (o.status ≡ 6 → AnswersDamaged taken sink_faults old new seen home away)
+  pub unmounted_answers : {C : Type 0} (o : Outcome D C) → (o.status ≡ 4) ⊎ ((o.status ≡ 5) ⊎ (o.status ≡ 6)) → (o.status ≡ 6 → AnswersDamaged taken sink_faults old new seen home away)
       → ((o.status ≡ 4) ⊎ (o.status ≡ 5) → taken new ≡ taken old) → o.history ≡ empty_history → HoldsOf o.history → LeavesDisks seen images calls faults home away o
       → AnswersRun taken sink_faults seen images calls faults old new home away o
   unmounted_answers o known damaged same empty holds disks =
@@ -93,6 +94,7 @@ module _ {S D : Type 0} (taken : S → Option (List ℕ)) (sink_faults : S → �
         recovered = λ is. run_is_none o.status some.0 some.1 is;
         empty = λ _. empty;
         holds = holds;
+        done = λ is. run_is_none o.status some.0 some.1 is;
         disks = disks;
         home_whole = λ is. run_is_none o.status some.0 some.1 is;
         away_whole = λ is. run_is_none o.status some.0 some.1 is;
@@ -100,13 +102,13 @@ module _ {S D : Type 0} (taken : S → Option (List ℕ)) (sink_faults : S → �
 
   -- ---- the run was played
 
-  module _ (scripts : List SessionScript) (p : Played D) (o : Outcome D) (plays : PlaysOver seen images calls faults home away scripts p) (history_is : o.history ≡ p.history) (home_is : o.home ≡ p.home) (away_is : o.away ≡ p.away) where
+  module _ {C : Type 0} (scripts : List SessionScript) (p : Played D) (o : Outcome D C) (plays : PlaysOver seen images calls faults home away scripts p) (history_is : o.history ≡ p.history) (home_is : o.home ≡ p.home) (away_is : o.away ≡ p.away) where
     -- what is said of the parts that were played is said of the outcome
-    as_played : (P : Outcome D → Type 0) → P (record { status = o.status; history = p.history; home = p.home; away = p.away }) → P o
+    as_played : (P : Outcome D C → Type 0) → P (record { status = o.status; history = p.history; home = p.home; away = p.away; clock = o.clock }) → P o
     as_played P x =
-        subst (λ y. P (record { status = o.status; history = o.history; home = o.home; away = y })) (sym away_is)
-        (subst (λ y. P (record { status = o.status; history = o.history; home = y; away = p.away })) (sym home_is)
-        (subst (λ y. P (record { status = o.status; history = y; home = p.home; away = p.away })) (sym history_is) x))
+        subst (λ y. P (record { status = o.status; history = o.history; home = o.home; away = y; clock = o.clock })) (sym away_is)
+        (subst (λ y. P (record { status = o.status; history = o.history; home = y; away = p.away; clock = o.clock })) (sym home_is)
+        (subst (λ y. P (record { status = o.status; history = y; home = p.home; away = p.away; clock = o.clock })) (sym history_is) x))
 
     module _ (known : IsRun o.status ⊎ ((o.status ≡ 4) ⊎ (o.status ≡ 5))) (ran : IsRun o.status → p.end ≡ ends.Whole) (halted : o.status ≡ 5 → p.end ≡ ends.Halted) where
       not_at : {P : Type 0} (n : ℕ) → (o.status ≡ n) → (n ≡ 0 → ⊥) → (n ≡ 7 → ⊥) → (n ≡ 4 → ⊥) → (n ≡ 5 → ⊥) → P
@@ -152,6 +154,7 @@ module _ {S D : Type 0} (taken : S → Option (List ℕ)) (sink_faults : S → �
         recovered = λ is. (is_recovered seen home p.history.home plays.front.home_is, is_recovered seen away p.history.away plays.front.away_is);
         empty = λ is. none_empty is;
         holds = subst HoldsOf (sym history_is) plays.holds;
+        done = λ is. subst IsAllDoneAfter (sym history_is) (plays.done (ran is));
         disks = played_leaves;
         home_whole = λ is. as_played (λ x. LeavesWhole seen images calls Home home x.home x.history) (plays.home_whole (ran is));
         away_whole = λ is. as_played (λ x. LeavesWhole seen images calls Away away x.away x.history) (plays.away_whole (ran is));

@@ -1,22 +1,26 @@
 -- Turns of the world, whole and broken off.
-use Rattle.std.proofs.Common.{◌≡◌, ◌<◌, ◌⊎◌, inl, inr, ℕ, Bool, true, false, Option, Some, None, Result, Ok, Err, refl, subst}
+use Rattle.std.proofs.Common.{◌≡◌, ◌<◌, ◌⊎◌, inl, inr, ℕ, List, Bool, true, false, Option, Some, None, Result, Ok, Err, refl, subst}
 use Rattle.std.specs.Prelude.{slice_get, is_some, OnOk, IfErr}
 use Rattle.std.proofs.lemmas.Bool.{lt-ltb}
 use Rattle.queue_rows.specs.Session.{Session, Untold}
 use Rattle.queue_rows.specs.World.{World, read_clock}
 use Rattle.queue_rows.specs.Turns.{next_reading, begun, flushed, session_turn, telling_turn, telling_of, telling_of_some, turn_of, turn_of_some, drained, closing_turn}
-use Rattle.queue_rows.specs.Serial.{next_session_turn, at_closing, next_closing_turn}
-use Rattle.aq_world.specs.Turning.{next_turned, reads_clock, is_owed, IsBrokenOff, IsUndone, broken_if, IsOfRun, IsWhole}
+use Rattle.queue_rows.specs.Serial.{next_session_turn}
+use Rattle.aq_world.specs.Clocked.{Clocked, IsClosing, IsTurn}
+use Rattle.aq_world.specs.Turning.{turned, reads_clock, is_owed, IsBrokenOff, IsUndone, broken_if, IsOfRun, IsWhole}
 use Rattle.aq_world.specs.declared.turn_end.TurnEnd.{TurnEnd}
 use Rattle.aq_world.specs.declared.turn_end.TurnEnd.TheVariants as ends
 use Rattle.durable_state.specs.Held.{Held, HasFailed}
 use Rattle.durable_state.specs.declared.broken.Broken.{Broken}
 use Rattle.durable_state.specs.declared.broken.Broken.TheVariants as breaks
 use Rattle.aq_run.specs.Passing.{EndsBy}
-use Rattle.aq_run.specs.Rounds.{IsClosed}
 use Rattle.aq_world.proofs.OfRun.{of_run-refl, of_run-trans, of_run-along, of_run-read, of_run-begun, of_run-flushed, of_run-drained, of_run-session_turn, of_run-timer_turn, of_run-propagator_turn}
 
 -- ---- whose turn it is
+
+-- the actor's turn with the next reading of the serial schedule
+abbrev pub next_turned : ℕ → World → World
+next_turned actor w = turned (next_reading w) actor w
 
 pub turned_session : (i : ℕ) (w : World) → i < 64 → next_turned i w ≡ next_session_turn i w
 turned_session i w lt = rw (lt-ltb i 64 lt) refl
@@ -52,19 +56,19 @@ broken_by actor reading old new false broken = untold_run actor old new broken
 broken_run : (actor reading : ℕ) (old new : World) → IsBrokenOff actor reading old new → IsOfRun old new
 broken_run actor reading old new broken = broken_by actor reading old new (reads_clock actor old) broken
 
-pub turn_run : {P : Type 0} (actor : ℕ) (old new : World) (end : TurnEnd) → IsOfRun old (next_turned actor old) → (IsWhole end → new ≡ next_turned actor old)
-    → ((IsWhole end → ⊥) → P × IsBrokenOff actor (next_reading old) old new) → IsOfRun old new
-turn_run actor old new end turned whole broken =
-    by_end end (λ is. of_run-along old (next_turned actor old) new (whole is) turned) (λ no. broken_run actor (next_reading old) old new (broken no).1)
+pub turn_run : {D C : Type 0} (given : C → Option (List ℕ)) (plan : C → Option (ℕ → ℕ)) (actor : ℕ) (old new : Clocked D C) (end : TurnEnd) → ((reading : ℕ) → IsOfRun old.held.world (turned reading actor old.held.world))
+    → IsTurn given plan actor end old new → IsOfRun old.held.world new.held.world
+turn_run given plan actor old new end turns t =
+    by_end end (λ is. of_run-along old.held.world (turned t.reading actor old.held.world) new.held.world (t.world is) (turns t.reading)) (λ no. broken_run actor t.reading old.held.world new.held.world (t.broken no))
 
-pub session_run : (i : ℕ) (old : World) → i < 64 → IsOfRun old (next_turned i old)
-session_run i old lt = of_run-along old (next_session_turn i old) (next_turned i old) (turned_session i old lt) (of_run-session_turn (next_reading old) i old)
+pub session_run : (i : ℕ) (old : World) → i < 64 → (reading : ℕ) → IsOfRun old (turned reading i old)
+session_run i old lt reading = of_run-along old (session_turn reading i old) (turned reading i old) (rw (lt-ltb i 64 lt) refl) (of_run-session_turn reading i old)
 
-pub timer_run : (old : World) → IsOfRun old (next_turned 64 old)
-timer_run old = of_run-timer_turn (next_reading old) old
+pub timer_run : (old : World) (reading : ℕ) → IsOfRun old (turned reading 64 old)
+timer_run old reading = of_run-timer_turn reading old
 
-pub propagator_run : (old : World) → IsOfRun old (next_turned 65 old)
-propagator_run old = of_run-propagator_turn (next_reading old) old
+pub propagator_run : (old : World) (reading : ℕ) → IsOfRun old (turned reading 65 old)
+propagator_run old reading = of_run-propagator_turn reading old
 
 -- ---- the closing turn
 
@@ -73,15 +77,17 @@ is_done end (inl done) whole is = whole done
 is_done end (inr (inl broken)) whole is = absurd (subst IsWhole broken is)
 is_done end (inr (inr broken)) whole is = absurd (subst IsWhole broken is)
 
-closing_run : (steps : ℕ) (w : World) → IsOfRun w (next_closing_turn steps w)
+closing_run : (reading steps : ℕ) (w : World) → IsOfRun w (closing_turn reading steps w)
 unfolding closing_turn
-closing_run steps w =
-    let v = at_closing w in
+closing_run reading steps w =
+    let v = read_clock reading w in
     let d = drained steps v in
-    of_run-trans w v (flushed 66 d) (of_run-read (next_reading w) w) (of_run-trans v d (flushed 66 d) (of_run-drained steps v) (of_run-flushed 66 d))
+    of_run-trans w v (flushed 66 d) (of_run-read reading w) (of_run-trans v d (flushed 66 d) (of_run-drained steps v) (of_run-flushed 66 d))
 
-pub closed_run : (old new : World) → IsClosed old new → IsOfRun old new
-closed_run old new closed = of_run-along old (next_closing_turn closed.0 old) new closed.2 (closing_run closed.0 old)
+pub closing_of : {D C : Type 0} (given : C → Option (List ℕ)) (plan : C → Option (ℕ → ℕ)) (end : TurnEnd) (old new : Clocked D C) → (end ≡ ends.Done) ⊎ ((end ≡ ends.Memory) ⊎ (end ≡ ends.Halted))
+    → IsClosing given plan end old new → IsOfRun old.held.world new.held.world
+closing_of given plan end old new known t =
+    by_end end (λ is. is_done end known (λ done. let w = t.world done in of_run-along old.held.world (closing_turn t.reading w.0 old.held.world) new.held.world w.2 (closing_run t.reading w.0 old.held.world)) is) t.run
 
 -- ---- a telling turn is the turn of a session that is owed a reply
 

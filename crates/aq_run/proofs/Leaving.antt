@@ -52,9 +52,9 @@ damaged_fine s (inl k) f (inr (inr e)) = absurd (omega (arith, k, e))
 damaged_fine s (inr (inl k)) f (inr (inr e)) = absurd (omega (arith, k, e))
 damaged_fine s (inr (inr k)) f (inr (inr e)) = absurd (omega (arith, k, e))
 
-module _ {D : Type 0} (seen : D → Option (List ℕ)) (images : D → ℕ → List ℕ → Type 0) (calls faults : D → ℕ) (home away : D) where
+module _ {D C : Type 0} (seen : D → Option (List ℕ)) (images : D → ℕ → List ℕ → Type 0) (calls faults : D → ℕ) (home away : D) where
   -- the disks were not called
-  pub leaves_uncalled : (o : Outcome D) → 1 ≤ o.status → o.status ≤ 4 → o.history ≡ empty_history → o.home ≡ home → o.away ≡ away → LeavesDisks seen images calls faults home away o
+  pub leaves_uncalled : (o : Outcome D C) → 1 ≤ o.status → o.status ≤ 4 → o.history ≡ empty_history → o.home ≡ home → o.away ≡ away → LeavesDisks seen images calls faults home away o
   leaves_uncalled o some few empty home_is away_is = record {
     home_crash = inl empty;
     away_crash = inl empty;
@@ -65,7 +65,7 @@ module _ {D : Type 0} (seen : D → Option (List ℕ)) (images : D → ℕ → L
   }
 
   -- the databases were not mounted
-  pub leaves_unmounted : (fault : MountFault D) (o : Outcome D) → IsUnmounted seen images calls faults home away fault → (o.status ≡ 4) ⊎ ((o.status ≡ 5) ⊎ (o.status ≡ 6)) → (o.status ≡ 5 → IsFaultCause fault.cause)
+  pub leaves_unmounted : {B : Type 0} (fault : MountFault D B) (o : Outcome D C) → IsUnmounted seen images calls faults home away fault → (o.status ≡ 4) ⊎ ((o.status ≡ 5) ⊎ (o.status ≡ 6)) → (o.status ≡ 5 → IsFaultCause fault.cause)
       → {S : Type 0} (taken : S → Option (List ℕ)) (sink_faults : S → ℕ) (old new : S) → (o.status ≡ 6 → TellsCause taken sink_faults old new fault.cause)
       → o.history ≡ empty_history → o.home ≡ fault.home → o.away ≡ fault.away → LeavesDisks seen images calls faults home away o
   leaves_unmounted fault o u known fails taken sink_faults old new tells empty home_is away_is = record {
@@ -84,7 +84,7 @@ module _ {D : Type 0} (seen : D → Option (List ℕ)) (images : D → ℕ → L
       neither_at p = subst (λ x. FailsNeither faults home away x o.away) (sym home_is) (subst (λ x. FailsNeither faults home away fault.home x) (sym away_is) p)
 
   -- they were mounted, and nothing was done then
-  pub leaves_mounted : (w : Held D) (o : Outcome D) → Survives seen images calls faults (record { home = home; away = away }) w → (HasFailed w → ⊥) → w.entries ≡ []
+  pub leaves_mounted : (w : Held D) (o : Outcome D C) → Survives seen images calls faults (record { home = home; away = away }) w → (HasFailed w → ⊥) → w.entries ≡ []
       → RecoversTo seen home w.world.home.opening → RecoversTo seen away w.world.away.opening → (o.status ≡ 5 → ⊥)
       → o.history ≡ empty_history → o.home ≡ w.home.disk → o.away ≡ w.away.disk → LeavesDisks seen images calls faults home away o
   leaves_mounted w o s never none home_recovers away_recovers not_five empty home_is away_is = record {

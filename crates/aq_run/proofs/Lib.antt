@@ -1,5 +1,7 @@
 pub mod Answering
+pub mod Clocking
 pub mod Closing
+pub mod Completing
 pub mod Fronts
 pub mod Leaving
 pub mod Passing

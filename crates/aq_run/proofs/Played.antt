@@ -1,5 +1,5 @@
 -- What was played over the disks.
-use Rattle.std.proofs.Common.{◌≡◌, inl, inr, ◌≤◌, ℕ, List, Option, Some, None, Result, Ok, Err, refl, sym, subst, map}
+use Rattle.std.proofs.Common.{◌≡◌, inl, inr, ◌≤◌, ℕ, List, Option, Some, None, Result, Ok, Err, refl, sym, subst, map, arith}
 use Rattle.std.specs.Prelude.{OnOk, OnErr, true}
 use Rattle.aq_base.specs.declared.DbId.{DbId}
 use Rattle.aq_base.specs.declared.DbId.TheVariants.{Home, Away}
@@ -12,25 +12,26 @@ use Rattle.history_fates.specs.Durability.{made, durable}
 use Rattle.database_recovery.specs.Sound.{IsSound}
 use Rattle.queue_rows.specs.Legal.{IsLegalHistory}
 use Rattle.queue_rows.specs.Serial.{IsSerial, IsSerialFront, IsOnTheWay}
-use Rattle.run_turns.specs.Laws.{SerialCallsAll, SerialFrontIsLegal, LegalCallsInOrder}
+use Rattle.run_turns.specs.Laws.{IsAllDone, SerialCallsAll, SerialFrontIsLegal, SerialIsDone, SerialIsLegal, LegalCallsInOrder}
 use Rattle.run_fates.specs.DurableRun.{SerialIsDurable}
 use Rattle.run_spellings.specs.SpellableRun.{HasSpellableRows, have_text_rules}
 use Rattle.run_spellings.specs.SpellingLaws.{LegalCommitsSpell, SoundIsSpellable}
 use Rattle.run_state.specs.Entries.{BeginsAs}
 use Rattle.commit_log.specs.Logged.{AreLoggable}
+use Rattle.durable_state.specs.Going.{Goes}
 use Rattle.durable_state.specs.Held.{Held, HasFailed}
 use Rattle.durable_state.specs.Survival.{Survives}
 use Rattle.durable_state.specs.declared.broken.Broken.{Broken}
 use Rattle.durable_state.specs.declared.broken.Broken.TheVariants as breaks
 use Rattle.aq_world.specs.Mounting.{RecoversTo}
-use Rattle.aq_world.specs.Sound.{IsRunning}
+use Rattle.aq_world.specs.Turning.{IsOfRun}
 use Rattle.aq_run.specs.Disks.{SurvivesCall, LeavesWhole, FailsEither, FailsNeither}
-use Rattle.aq_run.specs.Passing.{Passes, EndsBy}
+use Rattle.aq_run.specs.Passing.{EndsBy}
 use Rattle.aq_run.specs.Rounds.{HasRun}
-use Rattle.aq_run.specs.Serve.{LegalHolds, PlaysOver, end_of}
+use Rattle.aq_run.specs.Serve.{IsAllDoneAfter, LegalHolds, PlaysOver, end_of}
 use Rattle.aq_run.specs.declared.play.RunEnd.{RunEnd}
 use Rattle.aq_run.specs.declared.play.RunEnd.TheVariants as ends
-use Rattle.aq_run.proofs.Playing.{Opens, home_is, away_is, may_so, whole_run, part_run, serial_front}
+use Rattle.aq_run.proofs.Playing.{Opens, home_is, away_is, scripts_are, may_so, whole_run, part_run, serial_front}
 use Rattle.aq_run.proofs.Surviving.{run_is, survives_call, kept_call, leaves_whole, not_failed}
 
 -- ---- by how it ended
@@ -68,35 +69,36 @@ module _ {D : Type 0} (seen : D → Option (List ℕ)) (images : D → ℕ → L
     pub away_sound : IsSound w.world.away.opening
     pub begun : Survives seen images calls faults (record { home = home; away = away }) w
     pub unfailed : HasFailed w → ⊥
-    pub passes : Passes seen images calls faults w v
+    pub run : IsOfRun w.world v.world
+    pub goes : Goes seen images calls faults w v
     pub entries : h.entries ≡ v.entries
     pub uncounted_so : map uncounted h.entries ≡ v.world.entries
     pub begins : BeginsAs v.world h
-    pub running : IsRunning v.world
+    pub begun_so : MayBegin v.world.home.opening v.world.away.opening v.world.scripts
     pub texts : have_text_rules scripts ≡ true
 
   module _ (p : IsPlayed) where
     may : MayBegin h.home h.away scripts
-    may = may_so scripts w.world v.world h p.opens p.passes.run p.begins p.running.begins
+    may = may_so scripts w.world v.world h p.opens p.run p.begins p.begun_so
 
     opens_home : RecoversTo seen home h.home
-    opens_home = subst (RecoversTo seen home) (sym (home_is scripts w.world v.world h p.opens p.passes.run p.begins)) p.home_is
+    opens_home = subst (RecoversTo seen home) (sym (home_is scripts w.world v.world h p.opens p.run p.begins)) p.home_is
 
     opens_away : RecoversTo seen away h.away
-    opens_away = subst (RecoversTo seen away) (sym (away_is scripts w.world v.world h p.opens p.passes.run p.begins)) p.away_is
+    opens_away = subst (RecoversTo seen away) (sym (away_is scripts w.world v.world h p.opens p.run p.begins)) p.away_is
 
     loggable : LegalHolds → SoundIsSpellable → LegalCommitsSpell → IsLegalHistory h.home h.away scripts h → (db : DbId) → AreLoggable (opening_of db h) (commits_of db h.entries)
     loggable holds sound spells legal db = record {
       fit = (holds h.home h.away scripts h may legal).fit db;
       spellable = spells h.home h.away scripts h may (record {
-        home_rows = subst HasSpellableRows (sym (home_is scripts w.world v.world h p.opens p.passes.run p.begins)) (sound w.world.home.opening p.home_sound);
-        away_rows = subst HasSpellableRows (sym (away_is scripts w.world v.world h p.opens p.passes.run p.begins)) (sound w.world.away.opening p.away_sound);
+        home_rows = subst HasSpellableRows (sym (home_is scripts w.world v.world h p.opens p.run p.begins)) (sound w.world.home.opening p.home_sound);
+        away_rows = subst HasSpellableRows (sym (away_is scripts w.world v.world h p.opens p.run p.begins)) (sound w.world.away.opening p.away_sound);
         rules = p.texts;
       }) legal db;
     }
 
     survives : Survives seen images calls faults (record { home = home; away = away }) v
-    survives = p.passes.disks.on (record { home = home; away = away }) p.begun
+    survives = p.goes.on (record { home = home; away = away }) p.begun
 
     -- ---- faults
 
@@ -132,20 +134,23 @@ module _ {D : Type 0} (seen : D → Option (List ℕ)) (images : D → ℕ → L
 
     module _ {T : Type 0} (r : Result T Broken) (has : OnOk r (HasRun w.world v.world)) (way : OnErr r (IsOnTheWay w.world v.world.entries)) (by : EndsBy r w v) where
       serial_whole : end_of r ≡ ends.Whole → IsSerial h.home h.away scripts h
-      serial_whole e = whole_run scripts w.world v.world h p.opens p.passes.run p.begins (when_whole r has e) p.uncounted_so
+      serial_whole e = whole_run scripts w.world v.world h p.opens p.run p.begins (when_whole r has e) p.uncounted_so
 
       front_of : IsSerialFront h.home h.away scripts h
       front_of = either r has way
-          (λ x. serial_front h.home h.away scripts h (whole_run scripts w.world v.world h p.opens p.passes.run p.begins x p.uncounted_so))
-          (λ x. part_run scripts w.world v.world h p.opens p.passes.run p.begins x p.uncounted_so)
+          (λ x. serial_front h.home h.away scripts h (whole_run scripts w.world v.world h p.opens p.run p.begins x p.uncounted_so))
+          (λ x. part_run scripts w.world v.world h p.opens p.run p.begins x p.uncounted_so)
 
       never_failed : end_of r ≡ ends.Whole → HasFailed v → ⊥
       never_failed e failed = p.unfailed (when_fine r w v by e failed)
 
+      all_durable : (db : DbId) → durable db h.entries ≡ made db h.entries → made db h.entries ≤ durable db h.entries
+      all_durable db e = omega (arith, e)
+
       pub plays : ((d : D) (bytes : List ℕ) → seen d ≡ Some bytes → images d (calls d) bytes)
-          → SerialFrontIsLegal → SerialCallsAll → LegalCallsInOrder → LegalHolds → SoundIsSpellable → LegalCommitsSpell → SerialIsDurable
+          → SerialFrontIsLegal → SerialIsLegal → SerialIsDone → SerialCallsAll → LegalCallsInOrder → LegalHolds → SoundIsSpellable → LegalCommitsSpell → SerialIsDurable
           → PlaysOver seen images calls faults home away scripts (record { history = h; end = end_of r; home = v.home.disk; away = v.away.disk })
-      plays reads front_legal all_called in_order holds sound spells durably =
+      plays reads front_legal whole_legal all_done all_called in_order holds sound spells durably =
           let legal = front_legal h.home h.away scripts h may front_of in
           let logs = loggable holds sound spells legal in
           record {
@@ -153,7 +158,7 @@ module _ {D : Type 0} (seen : D → Option (List ℕ)) (images : D → ℕ → L
               home_is = opens_home;
               away_is = opens_away;
               serial = serial_whole e;
-              legal = legal;
+              legal = whole_legal h.home h.away scripts h may (serial_whole e);
               calls = all_called h.home h.away scripts h (serial_whole e);
             };
             front = record {
@@ -164,14 +169,18 @@ module _ {D : Type 0} (seen : D → Option (List ℕ)) (images : D → ℕ → L
               calls = in_order h.home h.away scripts h legal;
             };
             holds = holds h.home h.away scripts h may legal;
+            done = λ e. record {
+              done = subst (λ given. IsAllDone h.home h.away given h) (sym (scripts_are scripts w.world v.world h p.opens p.run p.begins)) (all_done h.home h.away scripts h may (serial_whole e));
+              durable_all = durably h.home h.away scripts h may (serial_whole e);
+            };
             home_crash = home_survives logs;
             away_crash = away_survives logs;
             home_kept = kept_call seen images calls Home home v.home.disk h (home_survives logs) opens_home;
             away_kept = kept_call seen images calls Away away v.away.disk h (away_survives logs) opens_away;
             halted = λ e. halted_so (when_halted r w v by e);
             fine = λ e. fine_so (never_failed e);
-            home_whole = λ e. home_leaves logs reads (never_failed e) (durably h.home h.away scripts h may (serial_whole e));
-            away_whole = λ e. away_leaves logs reads (never_failed e) (durably h.home h.away scripts h may (serial_whole e));
+            home_whole = λ e. home_leaves logs reads (never_failed e) (λ db. all_durable db (durably h.home h.away scripts h may (serial_whole e) db));
+            away_whole = λ e. away_leaves logs reads (never_failed e) (λ db. all_durable db (durably h.home h.away scripts h may (serial_whole e) db));
           }
 
 -- what is played under other names of its parts

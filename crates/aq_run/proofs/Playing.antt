@@ -76,7 +76,7 @@ module _ (scripts : List SessionScript) (old new : World) (h : History) (e : Ope
   pub away_is : h.away ≡ old.away.opening
   away_is = b.away_is ∙ run.away
 
-  scripts_are : h.scripts ≡ scripts
+  pub scripts_are : h.scripts ≡ scripts
   scripts_are = b.scripts_are ∙ run.scripts ∙ ap (λ (w : World). w.scripts) e ∙ scripts-opened old.home.opening old.away.opening scripts
 
   -- the run began as its history does

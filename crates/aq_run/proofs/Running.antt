@@ -12,7 +12,7 @@ use Rattle.queue_rows.specs.Within.{are_within, statement_count, is_script_withi
 use Rattle.queue_rows.specs.declared.history.Entry.{Entry}
 use Rattle.queue_rows.specs.declared.history.SessionScript.{SessionScript}
 use Rattle.queue_rows.specs.World.{World}
-use Rattle.queue_rows.specs.Turns.{any_live, drained, DrainsIn}
+use Rattle.queue_rows.specs.Turns.{next_reading, any_live, drained, DrainsIn}
 use Rattle.queue_rows.specs.Serial.{rounds, round, at_closing, next_closing_turn, IsOnTheWay, in_rounds, in_closing}
 use Rattle.aq_world.specs.Turning.{IsUnclosed}
 use Rattle.aq_run.specs.Progress.{asked, asked_by, AreAt, AreTold}
@@ -42,7 +42,7 @@ pub way_in_round : (start w : World) (es : List Entry) → IsAfter start w → I
 way_in_round start w es a front = in_rounds (suc a.count) (subst (λ u. IsFront es u.entries) (rounds_next a.count start w (round w) a.world refl) front)
 
 -- broken off in the closing turn
-pub way_in_closing : (start w new : World) → IsAfter start w → any_live w ≡ false → IsUnclosed w new → IsOnTheWay start new.entries
+pub way_in_closing : (start w new : World) → IsAfter start w → any_live w ≡ false → IsUnclosed (next_reading w) w new → IsOnTheWay start new.entries
 way_in_closing start w new a over closed =
     in_closing a.count (ap any_live (sym a.world) ∙ over) closed.0
     (subst (λ v. IsFront new.entries (drained closed.0 (at_closing v)).entries) a.world closed.1)

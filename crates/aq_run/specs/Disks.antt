@@ -53,7 +53,7 @@ FailsNeither faults home away home_after away_after = (faults home_after ≡ fau
 -- ---- mounting
 
 -- the databases were not mounted, for this cause, and each disk still recovers what it did
-pub record IsUnmounted {D : Type 0} (seen : D → Option (List ℕ)) (images : D → ℕ → List ℕ → Type 0) (calls faults : D → ℕ) (home away : D) (fault : MountFault D) : Type 0 where
+pub record IsUnmounted {D C : Type 0} (seen : D → Option (List ℕ)) (images : D → ℕ → List ℕ → Type 0) (calls faults : D → ℕ) (home away : D) (fault : MountFault D C) : Type 0 where
   pub cause : HasMountCause seen faults fault.cause home away fault.home fault.away
   pub home_kept : KeepsRecovered seen images calls home fault.home
   pub away_kept : KeepsRecovered seen images calls away fault.away

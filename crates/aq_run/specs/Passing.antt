@@ -1,15 +1,23 @@
--- What turns of a world over its disks leave, however they end.
-use Rattle.std.specs.Prelude.{◌≡◌, ℕ, List, Option, Result, MatchResult}
+-- What turns of a world over its disks and its clock leave, however they end.
+use Rattle.std.specs.Prelude.{◌≡◌, ℕ, List, Option, Some, IsSome, Result, MatchResult}
+use Rattle.aq_clock.specs.Clock.{step_reading}
+use Rattle.aq_world.specs.Clocked.{Clocked}
 use Rattle.aq_world.specs.Turning.{IsOfRun}
 use Rattle.durable_state.specs.Held.{Held, HasFailed}
 use Rattle.durable_state.specs.Going.{Goes}
 use Rattle.durable_state.specs.declared.broken.Broken.{Broken}
 use Rattle.durable_state.specs.declared.broken.Broken.TheVariants.{Halted}
 
--- the run is the one that it was, and what a crash leaves of it is said as before
-pub record Passes {D : Type 0} (seen : D → Option (List ℕ)) (images : D → ℕ → List ℕ → Type 0) (calls faults : D → ℕ) (old new : Held D) : Type 0 where
-  pub run : IsOfRun old.world new.world
-  pub disks : Goes seen images calls faults old new
+-- the clock is that of the serial schedule: it counts seconds from the opening moment, and tells its readings
+pub record IsSerialClock {D C : Type 0} (given : C → Option (List ℕ)) (plan : C → Option (ℕ → ℕ)) (w : Clocked D C) : Type 0 where
+  pub planned : plan w.clock ≡ Some (step_reading w.held.world.opening)
+  pub tells : IsSome (given w.clock)
+
+-- the run is the one that it was, what a crash leaves of it is said as before, and the clock goes on
+pub record Passes {D C : Type 0} (seen : D → Option (List ℕ)) (images : D → ℕ → List ℕ → Type 0) (calls faults : D → ℕ) (given : C → Option (List ℕ)) (plan : C → Option (ℕ → ℕ)) (old new : Clocked D C) : Type 0 where
+  pub run : IsOfRun old.held.world new.held.world
+  pub disks : Goes seen images calls faults old.held new.held
+  pub clock : IsSerialClock given plan old → IsSerialClock given plan new
 
 -- turns that came to their end saw no failure; those that were halted did
 abbrev pub EndsBy : {T D : Type 0} → Result T Broken → Held D → Held D → Type 0

@@ -1,13 +1,16 @@
 -- What the program answers.
-use Rattle.std.specs.Prelude.{◌≡◌, ◌≤◌, ◌⊎◌, ℕ, ◌++◌, ◌==◌, List, [], length, take, codes, Option, Result, Ok, Err, true, if◌then◌else◌}
+use Rattle.std.specs.Prelude.{◌≡◌, ◌≤◌, ◌<◌, ◌⊎◌, ℕ, ◌++◌, ◌==◌, List, [], length, take, codes, Option, Some, IfSome, IsSome, Result, Ok, Err, true, if◌then◌else◌}
 use Rattle.std.specs.Fmt.{decimal}
-use Rattle.std.specs.Io.KnownBytes.{Appends}
-use Rattle.aq_base.specs.Causes.{Rose}
+use Rattle.std.specs.Io.KnownBytes.{Appends, Consumes}
+use Rattle.aq_base.specs.Causes.{LastRead, Rose}
+use Rattle.aq_base.specs.declared.stream.Failed.{Failed}
 use Rattle.aq_base.specs.declared.DbId.{DbId}
 use Rattle.aq_base.specs.declared.DbId.TheVariants.{Home, Away}
 use Rattle.queue_rows.specs.Tables.{empty_tables}
 use Rattle.queue_rows.specs.Serial.{IsSerial, IsSerialFront}
-use Rattle.queue_rows.specs.Legal.{IsLegalHistory}
+use Rattle.queue_rows.specs.Legal.{IsLegalBy, IsLegalHistory}
+use Rattle.run_turns.specs.Laws.{IsAllDone}
+use Rattle.queue_rows.specs.Turns.{step_readings}
 use Rattle.queue_rows.specs.Order.{CallsAll, CallsInOrder}
 use Rattle.queue_rows.specs.declared.history.History.{History}
 use Rattle.queue_rows.specs.declared.history.SessionScript.{SessionScript}
@@ -17,9 +20,10 @@ use Rattle.world_laws.specs.WorldLaws.{MayBegin}
 use Rattle.fate_laws.specs.Lasting.{HasFates}
 use Rattle.fate_laws.specs.Made.{commits_of, opening_of}
 use Rattle.history_fates.specs.Arrivals.{IsSeenOnce, HasArrivals}
-use Rattle.history_fates.specs.Durability.{ToldIsDurable}
+use Rattle.history_fates.specs.Durability.{made, durable, ToldIsDurable}
 use Rattle.history_fates.specs.LegalFates.{all_fit}
 use Rattle.run_fates.specs.DurableRun.{ConfirmedIsSeen, CopiedIsDurable}
+use Rattle.redo_records.specs.Recovered.{recovered}
 use Rattle.script_text.specs.Script.{script}
 use Rattle.transcript.specs.Dump.{print_tables}
 use Rattle.transcript.specs.Print.{print}
@@ -29,6 +33,8 @@ use Rattle.aq_world.specs.declared.mount.MountCause.TheVariants as causes
 use Rattle.durable_state.specs.declared.broken.Broken.{Broken}
 use Rattle.durable_state.specs.declared.broken.Broken.TheVariants as breaks
 use Rattle.aq_run.specs.Disks.{SurvivesCall, LeavesWhole, IsFirstDamaged, FailsEither, FailsNeither}
+use Rattle.aq_run.specs.declared.command.Command.{Command}
+use Rattle.aq_run.specs.declared.command.Command.TheVariants.{RunSerial}
 use Rattle.aq_run.specs.declared.play.Played.{Played}
 use Rattle.aq_run.specs.declared.play.RunEnd.{RunEnd}
 use Rattle.aq_run.specs.declared.play.RunEnd.TheVariants as ends
@@ -66,6 +72,10 @@ empty_history = record { home = empty_tables; away = empty_tables; opening = 0; 
 abbrev pub IsRun : ℕ → Type 0
 IsRun status = (status ≡ 0) ⊎ (status ≡ 7)
 
+-- the script was read whole: it was run, or one of the disks stood in the way
+abbrev pub IsReadWhole : ℕ → Type 0
+IsReadWhole status = (status ≡ 0) ⊎ ((status ≡ 5) ⊎ ((status ≡ 6) ⊎ (status ≡ 7)))
+
 -- all was done, or: the words are no command, the input is no script, it could not be read, memory ran out, a disk failed, a disk is damaged,
 -- a write failed
 abbrev pub IsStatus : ℕ → Type 0
@@ -99,15 +109,21 @@ abbrev pub LegalHolds : Type 0
 LegalHolds = (home away : Tables) (scripts : List SessionScript) (h : History) → MayBegin home away scripts
     → IsLegalHistory home away scripts h → HoldsOf h
 
+-- All was done: each session has its End; legal steps led to a world in which no session goes on, every commit is durable, nothing is due
+-- and nothing can be sent; and so many commits were made durable as were made.
+pub record IsAllDoneAfter (h : History) : Type 0 where
+  pub done : IsAllDone h.home h.away h.scripts h
+  pub durable_all : (db : DbId) → durable db h.entries ≡ made db h.entries
+
 -- ---- whose history it is
 
--- Over the tables that the disks recover, the history is that of the serial schedule of the scripts; it is legal, and calls all that they
--- ask.
+-- Over the tables that the disks recover, the history is that of the serial schedule of the scripts; it is legal, by the readings of the
+-- clock that counts seconds from the opening moment, and calls all that they ask.
 pub record IsRunBy {D : Type 0} (seen : D → Option (List ℕ)) (home away : D) (scripts : List SessionScript) (h : History) : Type 0 where
   pub home_is : RecoversTo seen home h.home
   pub away_is : RecoversTo seen away h.away
   pub serial : IsSerial h.home h.away scripts h
-  pub legal : IsLegalHistory h.home h.away scripts h
+  pub legal : (count : ℕ) × IsLegalBy (step_readings h.opening count) h.home h.away scripts h
   pub calls : CallsAll h
 
 -- the input is a script, and the history is its run
@@ -129,6 +145,54 @@ AnswersFront seen home away h input = (h ≡ empty_history) ⊎ ((scripts : List
 -- the input is no script, and its first bad line is told
 abbrev pub AnswersBad : {S : Type 0} → (S → Option (List ℕ)) → (S → ℕ) → S → S → List ℕ → Type 0
 AnswersBad taken faults old new input = (line : ℕ) × (script input ≡ Err line) × Tells taken faults old new (bad_line_text line)
+
+-- ---- what is read
+
+-- These bytes were read: of a source that tells what is left, its first ones, and they are gone; fewer than one past the limit of an input
+-- only where a read told the end.
+pub record ReadsBytes {I : Type 0} (left : I → Option (List ℕ)) (gives : I → List ℕ → Result ℕ Failed → I → Type 0) (old new : I) (bytes : List ℕ) : Type 0 where
+  pub few : length bytes ≤ 67108865
+  pub front : IfSome (left old) (λ xs. bytes ≡ take 67108865 xs)
+  pub rest : Consumes (left old) (left new) bytes
+  pub whole : length bytes < 67108865 → LastRead gives new (λ answer. answer ≡ Ok 0)
+
+-- the input could not be read, or not kept
+abbrev pub IsUnread : {D C : Type 0} → Outcome D C → Type 0
+IsUnread o = ((o.status ≡ 3) ⊎ (o.status ≡ 4)) × (o.history ≡ empty_history)
+
+-- what is answered to these bytes, whether or not the source tells that they were its own
+pub record AnswersBytes {S D C : Type 0} (taken : S → Option (List ℕ)) (sink_faults : S → ℕ) (old new : S) (seen : D → Option (List ℕ)) (home away : D) (o : Outcome D C) (bytes : List ℕ) : Type 0 where
+  pub bad : o.status ≡ 2 → AnswersBad taken sink_faults old new bytes
+  pub not_bad : (line : ℕ) → script bytes ≡ Err line → (o.status ≡ 2) ⊎ (o.status ≡ 4)
+  pub history : IsRun o.status → IsRunOf seen home away o.history bytes
+  pub front : (o.status ≡ 4) ⊎ (o.status ≡ 5) → AnswersFront seen home away o.history bytes
+  pub within : IsReadWhole o.status → length bytes ≤ 67108864
+
+-- the source tells that it has a script to be read
+pub record HasScript {I : Type 0} (left : I → Option (List ℕ)) (input : I) : Type 0 where
+  pub bytes : List ℕ
+  pub scripts : List SessionScript
+  pub told : left input ≡ Some bytes
+  pub reads : script bytes ≡ Ok scripts
+
+-- the disk tells bytes that recover tables
+pub record HasTables {D : Type 0} (seen : D → Option (List ℕ)) (disk : D) : Type 0 where
+  pub bytes : List ℕ
+  pub tables : Tables
+  pub told : seen disk ≡ Some bytes
+  pub recovers : recovered bytes ≡ Ok tables
+
+-- nothing but want of memory stands in the way: the words are a command, a run has its script, both disks recover, and nothing failed
+pub record CanServe {I S D : Type 0} (command : Option Command) (left : I → Option (List ℕ)) (source_faults : I → ℕ) (sink_faults : S → ℕ) (seen : D → Option (List ℕ)) (faults : D → ℕ) (input input_after : I) (out out_after : S) (home away home_after away_after : D) : Type 0 where
+  pub asked : IsSome command
+  pub script_is : command ≡ Some RunSerial → HasScript left input
+  pub home_is : HasTables seen home
+  pub away_is : HasTables seen away
+  pub reads : Rose (source_faults input) (source_faults input_after) → ⊥
+  pub writes : Rose (sink_faults out) (sink_faults out_after) → ⊥
+  pub disks : FailsEither faults home away home_after away_after → ⊥
+
+-- ---- what is told of damage
 
 -- the disk that is damaged first is told, with the offset
 pub record AnswersDamaged {S D : Type 0} (taken : S → Option (List ℕ)) (sink_faults : S → ℕ) (old new : S) (seen : D → Option (List ℕ)) (home away : D) : Type 0 where
@@ -155,7 +219,7 @@ pub record AnswersDump {D : Type 0} (seen : D → Option (List ℕ)) (home away 
 
 -- A crash at any moment of the call: of a call that reached no run nothing is lost, and of a run nothing that was durable. The disks' counts
 -- of faults say why it is told that one failed, and that none did.
-pub record LeavesDisks {D : Type 0} (seen : D → Option (List ℕ)) (images : D → ℕ → List ℕ → Type 0) (calls faults : D → ℕ) (home away : D) (o : Outcome D) : Type 0 where
+pub record LeavesDisks {D C : Type 0} (seen : D → Option (List ℕ)) (images : D → ℕ → List ℕ → Type 0) (calls faults : D → ℕ) (home away : D) (o : Outcome D C) : Type 0 where
   pub home_crash : (o.history ≡ empty_history) ⊎ SurvivesCall seen images calls Home home o.home o.history
   pub away_crash : (o.history ≡ empty_history) ⊎ SurvivesCall seen images calls Away away o.away o.history
   pub home_kept : o.history.entries ≡ [] → KeepsRecovered seen images calls home o.home
@@ -166,7 +230,7 @@ pub record LeavesDisks {D : Type 0} (seen : D → Option (List ℕ)) (images : D
 -- ---- runs
 
 -- What a run answers, whatever script it is of: what is written, where it is damaged, and what is left of the disks.
-pub record AnswersRun {S D : Type 0} (taken : S → Option (List ℕ)) (sink_faults : S → ℕ) (seen : D → Option (List ℕ)) (images : D → ℕ → List ℕ → Type 0) (calls faults : D → ℕ) (old new : S) (home away : D) (o : Outcome D) : Type 0 where
+pub record AnswersRun {S D C : Type 0} (taken : S → Option (List ℕ)) (sink_faults : S → ℕ) (seen : D → Option (List ℕ)) (images : D → ℕ → List ℕ → Type 0) (calls faults : D → ℕ) (old new : S) (home away : D) (o : Outcome D C) : Type 0 where
   pub whole : o.status ≡ 0 → Appends (taken old) (taken new) (print o.history)
   pub part : (o.status ≡ 4) ⊎ (o.status ≡ 7) → WritesFront taken old new (print o.history)
   pub at_fault : o.status ≡ 5 → Tells taken sink_faults old new (print o.history)
@@ -175,6 +239,7 @@ pub record AnswersRun {S D : Type 0} (taken : S → Option (List ℕ)) (sink_fau
   pub recovered : IsRun o.status → IsRecovered seen home × IsRecovered seen away
   pub empty : (o.status ≡ 2) ⊎ ((o.status ≡ 3) ⊎ (o.status ≡ 6)) → o.history ≡ empty_history
   pub holds : HoldsOf o.history
+  pub done : IsRun o.status → IsAllDoneAfter o.history
   pub disks : LeavesDisks seen images calls faults home away o
   pub home_whole : IsRun o.status → LeavesWhole seen images calls Home home o.home o.history
   pub away_whole : IsRun o.status → LeavesWhole seen images calls Away away o.away o.history
@@ -190,6 +255,7 @@ pub record PlaysOver {D : Type 0} (seen : D → Option (List ℕ)) (images : D �
   pub run : p.end ≡ ends.Whole → IsRunBy seen home away scripts p.history
   pub front : IsFrontBy seen home away scripts p.history
   pub holds : HoldsOf p.history
+  pub done : p.end ≡ ends.Whole → IsAllDoneAfter p.history
   pub home_crash : SurvivesCall seen images calls Home home p.home p.history
   pub away_crash : SurvivesCall seen images calls Away away p.away p.history
   pub home_kept : p.history.entries ≡ [] → KeepsRecovered seen images calls home p.home

@@ -5,9 +5,10 @@ ghost use Rattle.aq_run.specs.Disks.{IsUnmounted};
 ghost use Rattle.aq_run.specs.Serve.{LegalHolds, PlaysOver, end_of};
 
 use crate::rounds::run;
+use aq_clock::StepClock;
 use aq_disk::Disk;
-use aq_world::{MountFault, World};
-use durable_state::{Broken, Finished};
+use aq_world::{Finished, MountFault, World};
+use durable_state::Broken;
 use payload_records::List;
 use queue_rows::{History, SessionScript};
 use run_fates::{
@@ -15,7 +16,9 @@ use run_fates::{
     legal_has_fates, legal_is_durable_as_told, legal_sees_once, serial_is_durable,
 };
 use run_spellings::{legal_commits_spell, rules_are_texts, sound_is_spellable};
-use run_turns::{legal_calls_in_order, serial_calls_all, serial_front_is_legal};
+use run_turns::{
+    legal_calls_in_order, serial_calls_all, serial_front_is_legal, serial_is_done, serial_is_legal,
+};
 use std::alloc::Global;
 
 /// What the laws of legal histories say, together.
@@ -71,7 +74,7 @@ pub fn play<D: Disk>(
     scripts: List<SessionScript>,
     home: D,
     away: D,
-) -> Result<Played<D>, MountFault<D>>
+) -> Result<Played<D>, MountFault<D, StepClock>>
     requires { AreReadable scripts }
     ensures played { IfOk result (λ p.
         PlaysOver D.seen D.is_image D.calls D.faults home away scripts p) }
@@ -84,14 +87,17 @@ pub fn play<D: Disk>(
     serial_is_durable();
     serial_calls_all();
     serial_front_is_legal();
+    serial_is_legal();
+    serial_is_done();
     legal_calls_in_order();
     rules_are_texts(&scripts);
-    let mut world = World::mount(alloc, home, away, scripts)?;
+    let mut world = World::mount_serial(alloc, home, away, scripts)?;
     let end = end_of(run(&mut world));
     let Finished {
         history,
         home,
         away,
+        clock: _,
     } = world.finish();
     Ok(Played {
         history,

@@ -3,12 +3,13 @@ ghost use Rattle.std.specs.Prelude.{◌≡◌, ◌≤◌, ◌<◌, ◌^◌, ◌+
 ghost use Rattle.queue_rows.specs.Order.{IsFront};
 ghost use Rattle.world_laws.specs.ValidWorld.{AreScripts};
 ghost use Rattle.queue_rows.specs.Serial.{next_session_turn, next_timer_turn, next_propagator_turn, session_turns, telling_turns, round, IsOnTheWay};
-ghost use Rattle.queue_rows.specs.Turns.{telling_turn};
+ghost use Rattle.queue_rows.specs.Turns.{next_reading, telling_turn};
 ghost use Rattle.aq_world.specs.Turning.{IsUnclosed, IsWhole};
-ghost use Rattle.aq_run.specs.Passing.{EndsBy, Passes};
+ghost use Rattle.aq_run.specs.Passing.{EndsBy, IsSerialClock, Passes};
 ghost use Rattle.aq_run.specs.Progress.{AreAt, AreTold};
 ghost use Rattle.aq_run.specs.Rounds.{HasRun, IsClosed};
 
+use aq_clock::Clock;
 use aq_disk::Disk;
 use aq_world::{TurnEnd, World};
 use durable_state::Broken;
@@ -33,29 +34,31 @@ fn whole(end: TurnEnd) -> Result<(), Broken>
 }
 
 /// The turn of the session of that number.
-fn session_turn<D: Disk>(world: &mut World<D>, session: u32) -> Result<(), Broken>
-    requires session { session < length world.old.world.sessions }
-    requires few { length world.old.world.sessions ≤ 64 }
-    requires readings { world.old.world.readings < 2 ^ 63 }
-    ensures world { OnOk result (world.new.world ≡ next_session_turn session world.old.world) }
+fn session_turn<D: Disk, C: Clock>(world: &mut World<D, C>, session: u32) -> Result<(), Broken>
+    requires session { session < length world.old.held.world.sessions }
+    requires few { length world.old.held.world.sessions ≤ 64 }
+    requires readings { world.old.held.world.readings < 2 ^ 63 }
+    requires clock { IsSerialClock C.given C.plan world.old }
+    ensures world { OnOk result (world.new.held.world ≡ next_session_turn session world.old.held.world) }
     ensures front { OnErr result
-        (IsFront world.new.world.entries (next_session_turn session world.old.world).entries) }
-    ensures passes { Passes D.seen D.is_image D.calls D.faults world.old world.new }
-    ensures ends { EndsBy result world.old world.new }
+        (IsFront world.new.held.world.entries (next_session_turn session world.old.held.world).entries) }
+    ensures passes { Passes D.seen D.is_image D.calls D.faults C.given C.plan world.old world.new }
+    ensures ends { EndsBy result world.old.held world.new.held }
 {
     whole(world.turn(session))
 }
 
 /// Tells the session of that number what it has called, if it was not yet told.
-fn telling_turn<D: Disk>(world: &mut World<D>, session: u32) -> Result<(), Broken>
-    requires session { session < length world.old.world.sessions }
-    requires few { length world.old.world.sessions ≤ 64 }
-    requires readings { world.old.world.readings < 2 ^ 63 }
-    ensures world { OnOk result (world.new.world ≡ telling_turn session world.old.world) }
+fn telling_turn<D: Disk, C: Clock>(world: &mut World<D, C>, session: u32) -> Result<(), Broken>
+    requires session { session < length world.old.held.world.sessions }
+    requires few { length world.old.held.world.sessions ≤ 64 }
+    requires readings { world.old.held.world.readings < 2 ^ 63 }
+    requires clock { IsSerialClock C.given C.plan world.old }
+    ensures world { OnOk result (world.new.held.world ≡ telling_turn session world.old.held.world) }
     ensures front { OnErr result
-        (IsFront world.new.world.entries (telling_turn session world.old.world).entries) }
-    ensures passes { Passes D.seen D.is_image D.calls D.faults world.old world.new }
-    ensures ends { EndsBy result world.old world.new }
+        (IsFront world.new.held.world.entries (telling_turn session world.old.held.world).entries) }
+    ensures passes { Passes D.seen D.is_image D.calls D.faults C.given C.plan world.old world.new }
+    ensures ends { EndsBy result world.old.held world.new.held }
 {
     if world.is_owed(session) {
         session_turn(world, session)
@@ -65,13 +68,14 @@ fn telling_turn<D: Disk>(world: &mut World<D>, session: u32) -> Result<(), Broke
 }
 
 /// A turn of each session, in order.
-fn session_turns<D: Disk>(world: &mut World<D>) -> Result<(), Broken>
-    requires readings { world.old.world.readings < 2 ^ 62 + 2 ^ 30 }
-    ensures world { OnOk result (world.new.world ≡ session_turns world.old.world) }
-    ensures front { OnErr result (IsFront world.new.world.entries (session_turns world.old.world).entries) }
-    ensures passes { Passes D.seen D.is_image D.calls D.faults world.old world.new }
-    ensures ends { EndsBy result world.old world.new }
-    ensures few { length world.old.world.sessions ≤ 64 }
+fn session_turns<D: Disk, C: Clock>(world: &mut World<D, C>) -> Result<(), Broken>
+    requires readings { world.old.held.world.readings < 2 ^ 62 + 2 ^ 30 }
+    requires clock { IsSerialClock C.given C.plan world.old }
+    ensures world { OnOk result (world.new.held.world ≡ session_turns world.old.held.world) }
+    ensures front { OnErr result (IsFront world.new.held.world.entries (session_turns world.old.held.world).entries) }
+    ensures passes { Passes D.seen D.is_image D.calls D.faults C.given C.plan world.old world.new }
+    ensures ends { EndsBy result world.old.held world.new.held }
+    ensures few { length world.old.held.world.sessions ≤ 64 }
 {
     for session in 0..world.session_count() {
         session_turn(world, session)?;
@@ -80,12 +84,13 @@ fn session_turns<D: Disk>(world: &mut World<D>) -> Result<(), Broken>
 }
 
 /// Tells each session, in order, what it has called, if it was not yet told.
-fn telling_turns<D: Disk>(world: &mut World<D>) -> Result<(), Broken>
-    requires readings { world.old.world.readings < 2 ^ 63 }
-    ensures world { OnOk result (world.new.world ≡ telling_turns world.old.world) }
-    ensures front { OnErr result (IsFront world.new.world.entries (telling_turns world.old.world).entries) }
-    ensures passes { Passes D.seen D.is_image D.calls D.faults world.old world.new }
-    ensures ends { EndsBy result world.old world.new }
+fn telling_turns<D: Disk, C: Clock>(world: &mut World<D, C>) -> Result<(), Broken>
+    requires readings { world.old.held.world.readings < 2 ^ 63 }
+    requires clock { IsSerialClock C.given C.plan world.old }
+    ensures world { OnOk result (world.new.held.world ≡ telling_turns world.old.held.world) }
+    ensures front { OnErr result (IsFront world.new.held.world.entries (telling_turns world.old.held.world).entries) }
+    ensures passes { Passes D.seen D.is_image D.calls D.faults C.given C.plan world.old world.new }
+    ensures ends { EndsBy result world.old.held world.new.held }
 {
     for session in 0..world.session_count() {
         telling_turn(world, session)?;
@@ -94,37 +99,40 @@ fn telling_turns<D: Disk>(world: &mut World<D>) -> Result<(), Broken>
 }
 
 /// A turn of the timer.
-fn timer_turn<D: Disk>(world: &mut World<D>) -> Result<(), Broken>
-    requires readings { world.old.world.readings < 2 ^ 63 }
-    ensures world { OnOk result (world.new.world ≡ next_timer_turn world.old.world) }
-    ensures front { OnErr result (IsFront world.new.world.entries (next_timer_turn world.old.world).entries) }
-    ensures passes { Passes D.seen D.is_image D.calls D.faults world.old world.new }
-    ensures ends { EndsBy result world.old world.new }
+fn timer_turn<D: Disk, C: Clock>(world: &mut World<D, C>) -> Result<(), Broken>
+    requires readings { world.old.held.world.readings < 2 ^ 63 }
+    requires clock { IsSerialClock C.given C.plan world.old }
+    ensures world { OnOk result (world.new.held.world ≡ next_timer_turn world.old.held.world) }
+    ensures front { OnErr result (IsFront world.new.held.world.entries (next_timer_turn world.old.held.world).entries) }
+    ensures passes { Passes D.seen D.is_image D.calls D.faults C.given C.plan world.old world.new }
+    ensures ends { EndsBy result world.old.held world.new.held }
 {
     whole(world.turn(TIMER))
 }
 
 /// A turn of the propagator.
-fn propagator_turn<D: Disk>(world: &mut World<D>) -> Result<(), Broken>
-    requires readings { world.old.world.readings < 2 ^ 63 }
-    ensures world { OnOk result (world.new.world ≡ next_propagator_turn world.old.world) }
+fn propagator_turn<D: Disk, C: Clock>(world: &mut World<D, C>) -> Result<(), Broken>
+    requires readings { world.old.held.world.readings < 2 ^ 63 }
+    requires clock { IsSerialClock C.given C.plan world.old }
+    ensures world { OnOk result (world.new.held.world ≡ next_propagator_turn world.old.held.world) }
     ensures front { OnErr result
-        (IsFront world.new.world.entries (next_propagator_turn world.old.world).entries) }
-    ensures passes { Passes D.seen D.is_image D.calls D.faults world.old world.new }
-    ensures ends { EndsBy result world.old world.new }
+        (IsFront world.new.held.world.entries (next_propagator_turn world.old.held.world).entries) }
+    ensures passes { Passes D.seen D.is_image D.calls D.faults C.given C.plan world.old world.new }
+    ensures ends { EndsBy result world.old.held world.new.held }
 {
     whole(world.turn(PROPAGATOR))
 }
 
 /// A round of the serial schedule: a turn of each session, of the timer and of the propagator, and then what was called is told.
 #[tactic(auto, unfolding(queue_rows::specs::Serial::round))]
-fn round<D: Disk>(world: &mut World<D>) -> Result<(), Broken>
-    requires readings { world.old.world.readings < 2 ^ 62 + 2 ^ 30 }
-    ensures world { OnOk result (world.new.world ≡ round world.old.world) }
-    ensures front { OnErr result (IsFront world.new.world.entries (round world.old.world).entries) }
-    ensures passes { Passes D.seen D.is_image D.calls D.faults world.old world.new }
-    ensures ends { EndsBy result world.old world.new }
-    ensures few { length world.old.world.sessions ≤ 64 }
+fn round<D: Disk, C: Clock>(world: &mut World<D, C>) -> Result<(), Broken>
+    requires readings { world.old.held.world.readings < 2 ^ 62 + 2 ^ 30 }
+    requires clock { IsSerialClock C.given C.plan world.old }
+    ensures world { OnOk result (world.new.held.world ≡ round world.old.held.world) }
+    ensures front { OnErr result (IsFront world.new.held.world.entries (round world.old.held.world).entries) }
+    ensures passes { Passes D.seen D.is_image D.calls D.faults C.given C.plan world.old world.new }
+    ensures ends { EndsBy result world.old.held world.new.held }
+    ensures few { length world.old.held.world.sessions ≤ 64 }
 {
     session_turns(world)?;
     timer_turn(world)?;
@@ -133,27 +141,30 @@ fn round<D: Disk>(world: &mut World<D>) -> Result<(), Broken>
 }
 
 /// The closing turn.
-fn close<D: Disk>(world: &mut World<D>) -> Result<(), Broken>
-    requires readings { world.old.world.readings < 2 ^ 63 }
-    ensures world { OnOk result (IsClosed world.old.world world.new.world) }
-    ensures front { OnErr result (IsUnclosed world.old.world world.new.world) }
-    ensures passes { Passes D.seen D.is_image D.calls D.faults world.old world.new }
-    ensures ends { EndsBy result world.old world.new }
+fn close<D: Disk, C: Clock>(world: &mut World<D, C>) -> Result<(), Broken>
+    requires readings { world.old.held.world.readings < 2 ^ 63 }
+    requires clock { IsSerialClock C.given C.plan world.old }
+    ensures world { OnOk result (IsClosed world.old.held.world world.new.held.world) }
+    ensures front { OnErr result (IsUnclosed (next_reading world.old.held.world)
+        world.old.held.world world.new.held.world) }
+    ensures passes { Passes D.seen D.is_image D.calls D.faults C.given C.plan world.old world.new }
+    ensures ends { EndsBy result world.old.held world.new.held }
 {
     whole(world.closing())
 }
 
 /// Rounds while a session goes on, and then the closing turn. Where it is broken off the entries are the first ones of what they were
 /// to be.
-pub fn run<D: Disk>(world: &mut World<D>) -> Result<(), Broken>
-    requires readings { world.old.world.readings ≡ 0 }
-    requires at { AreAt 0 world.old.world }
-    requires told { AreTold world.old.world }
-    requires scripts { AreScripts world.old.world.scripts }
-    ensures whole { OnOk result (HasRun world.old.world world.new.world) }
-    ensures front { OnErr result (IsOnTheWay world.old.world world.new.world.entries) }
-    ensures passes { Passes D.seen D.is_image D.calls D.faults world.old world.new }
-    ensures ends { EndsBy result world.old world.new }
+pub fn run<D: Disk, C: Clock>(world: &mut World<D, C>) -> Result<(), Broken>
+    requires readings { world.old.held.world.readings ≡ 0 }
+    requires clock { IsSerialClock C.given C.plan world.old }
+    requires at { AreAt 0 world.old.held.world }
+    requires told { AreTold world.old.held.world }
+    requires scripts { AreScripts world.old.held.world.scripts }
+    ensures whole { OnOk result (HasRun world.old.held.world world.new.held.world) }
+    ensures front { OnErr result (IsOnTheWay world.old.held.world world.new.held.world.entries) }
+    ensures passes { Passes D.seen D.is_image D.calls D.faults C.given C.plan world.old world.new }
+    ensures ends { EndsBy result world.old.held world.new.held }
 {
     // Each round takes a reading. At the greatest moment no statement waits: then in each round a session that goes on calls a statement,
     // and in one more it ends.

@@ -7,6 +7,7 @@ use crate::outcome::Outcome;
 use crate::play::legal_holds;
 use crate::writing::tell_damaged;
 use aq_base::Sink;
+use aq_clock::{Clock, StepClock};
 use aq_disk::Disk;
 use aq_world::{MountCause, MountFault};
 use payload_records::List;
@@ -27,13 +28,20 @@ pub fn empty_history(alloc: Global) -> History
 }
 
 /// A call that ends before the disks are looked at.
-pub fn unbegun<D: Disk>(alloc: Global, status: u8, home: D, away: D) -> Outcome<D>
+pub fn unbegun<D: Disk, C: Clock>(
+    alloc: Global,
+    status: u8,
+    home: D,
+    away: D,
+    clock: C,
+) -> Outcome<D, C>
     requires some { 1 ≤ status }
     requires few { status ≤ 4 }
     ensures status { result.status ≡ status }
     ensures history { result.history ≡ empty_history }
     ensures home { result.home ≡ home }
     ensures away { result.away ≡ away }
+    ensures clock { result.clock ≡ clock }
     ensures holds { HoldsOf result.history }
     ensures disks { LeavesDisks D.seen D.is_image D.calls D.faults home away result }
 {
@@ -43,6 +51,7 @@ pub fn unbegun<D: Disk>(alloc: Global, status: u8, home: D, away: D) -> Outcome<
         history: empty_history(alloc),
         home,
         away,
+        clock,
     }
 }
 
@@ -64,7 +73,12 @@ fn tell_cause<O: Sink>(alloc: Global, out: &mut O, cause: MountCause) -> u8
 }
 
 /// A call whose databases were not mounted. What is said of the disks is said of those on which they were to be.
-pub fn unmounted<O: Sink, D: Disk>(alloc: Global, out: &mut O, fault: MountFault<D>) -> Outcome<D>
+pub fn unmounted<O: Sink, D: Disk, C: Clock>(
+    alloc: Global,
+    out: &mut O,
+    fault: MountFault<D, StepClock>,
+    clock: C,
+) -> Outcome<D, C>
     ensures known { (result.status ≡ 4) ⊎ ((result.status ≡ 5) ⊎ (result.status ≡ 6)) }
     ensures damaged { result.status ≡ 6
         → (home away : D) → IsUnmounted D.seen D.is_image D.calls D.faults home away fault
@@ -74,14 +88,21 @@ pub fn unmounted<O: Sink, D: Disk>(alloc: Global, out: &mut O, fault: MountFault
     ensures holds { HoldsOf result.history }
     ensures disks { (home away : D) → IsUnmounted D.seen D.is_image D.calls D.faults home away fault
         → LeavesDisks D.seen D.is_image D.calls D.faults home away result }
+    ensures clock { result.clock ≡ clock }
 {
     legal_holds();
-    let MountFault { cause, home, away } = fault;
+    let MountFault {
+        cause,
+        home,
+        away,
+        clock: _,
+    } = fault;
     let status = tell_cause(alloc, out, cause);
     Outcome {
         status,
         history: empty_history(alloc),
         home,
         away,
+        clock,
     }
 }

@@ -6,6 +6,7 @@ pub mod Numbers
 pub mod OfRun
 pub mod OwnTurns
 pub mod Pends
+pub mod Readings
 pub mod Running
 pub mod Sendings
 pub mod Sizes

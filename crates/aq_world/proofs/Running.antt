@@ -1,11 +1,14 @@
 -- Legal steps lead to the world behind each turn, also behind one that is broken off.
-use Rattle.std.proofs.Common.{◌≡◌, ◌<◌, ◌≤◌, inl, inr, ℕ, List, [], Bool, true, false, Option, Some, None, Result, refl, sym, ap, subst, ◌∙◌, arith, length}
-use Rattle.std.specs.Prelude.{◌⊎◌, Ok, Err, OnOk, OnErr, IfOk, MatchResult, ◌==◌, ◌||◌, nat_lt, slice_get, is_some, not, if◌then◌else◌}
-use Rattle.std.proofs.lemmas.Bool.{lt-ltb, or_left}
+use Rattle.std.proofs.Common.{◌≡◌, ◌<◌, ◌≤◌, ◌+◌, ◌++◌, ◌∷◌, inl, inr, ℕ, List, [], Bool, true, false, Option, Some, None, Result, refl, sym, ap, subst, ◌∙◌, arith, length, length-append, get_or}
+use Rattle.std.specs.Prelude.{◌^◌, ◌⊎◌, IsSome, Ok, Err, OnOk, OnErr, IfOk, MatchResult, ◌==◌, ◌||◌, nat_lt, slice_get, is_some, not, if◌then◌else◌}
+use Rattle.std.proofs.lemmas.Bool.{lt-ltb, or_left, false≢true}
+use Rattle.std.proofs.Math.Seq.{get_or-append_seam}
 use Rattle.std.proofs.lemmas.List.Elements.{All-nil}
+use Rattle.std.proofs.lemmas.List.FromFn.{get_or-map-range_with_len}
+use Rattle.std.specs.Option.{ForSome}
+use Rattle.aq_clock.specs.Clock.{HasReading, TellsOn, first_readings}
 use Rattle.queue_rows.specs.Meaning.{Meaning, answers, parks}
 use Rattle.queue_rows.specs.Session.{Session}
-use Rattle.queue_rows.specs.Turns.{step_readings, next_reading, begun, caught_up, flushed, drained, session_turn, timer_turn, propagator_turn, any_live, is_due, DrainsIn}
 use Rattle.queue_rows.specs.declared.history.SessionScript.{SessionScript}
 use Rattle.queue_rows.specs.declared.tables.Tables.{Tables}
 use Rattle.sessions.specs.Numbers.{IsPendable}
@@ -13,24 +16,27 @@ use Rattle.world_laws.specs.WorldLaws.{MayBegin}
 use Rattle.queue_rows.specs.World.{World, opened, read_clock}
 use Rattle.queue_rows.specs.Sending.{next_sending}
 use Rattle.queue_rows.specs.Legal.{IsLegal, opens, reads, steps, is_actor, is_sender}
-use Rattle.queue_rows.specs.Serial.{at_closing, next_closing_turn, next_session_turn, next_timer_turn, next_propagator_turn}
+use Rattle.queue_rows.specs.Turns.{begun, caught_up, flushed, drained, session_turn, timer_turn, propagator_turn, any_live, is_due, closing_turn, DrainsIn}
 use Rattle.run_laws.specs.ValidRun.{IsValidWorld}
 use Rattle.run_laws.proofs.Grouping.{opens_grouped}
 use Rattle.run_laws.proofs.Worlds.{opens_valid}
 use Rattle.run_turns.proofs.Began.{legal_began, began_so, opened_again}
 use Rattle.run_turns.proofs.Calling.{entries-opened, session-opened}
-use Rattle.run_turns.proofs.Legally.{IsOnClock, valid_now, session_turn_on, timer_on, propagator_on, closing_on, read_on, begun_on, flushed_on, begun_flushed_on, drains_on, drains_caught_on, drains_flushed_on}
+use Rattle.run_turns.proofs.Legally.{GoesOn, valid_now, session_turn_on, timer_on, propagator_on, closing_on, read_on, begun_on, flushed_on, begun_flushed_on, drains_on, drains_caught_on, drains_flushed_on}
+use Rattle.run_turns.proofs.OnReadings.{IsOnReadings, on_readings, on_readings_so}
 use Rattle.run_turns.proofs.Sounding.{opened_sound}
 use Rattle.run_state.specs.Entries.{IsUntold}
 use Rattle.durable_state.specs.Held.{Held, HasFailed}
 use Rattle.durable_state.specs.declared.broken.Broken.{Broken}
 use Rattle.durable_state.specs.declared.broken.Broken.TheVariants as reasons
+use Rattle.aq_world.specs.Clocked.{IsClocked, Reads, TakesReading}
 use Rattle.aq_world.specs.Going.{GoesAs}
 use Rattle.aq_world.specs.Sound.{IsSound, IsSoundSession, IsRunning, start_of}
-use Rattle.aq_world.specs.Turning.{IsActor, IsUndone, IsBrokenOff, IsPartOfStep, IsPartDrained, IsDrainable, IsOfRun, IsWhole, broken_end, broken_if, reads_clock, is_session, next_turned, next_meaning, end_by, session_end, background_end, timer_end, propagator_end, turn_end}
+use Rattle.aq_world.specs.Turning.{IsActor, IsUndone, IsBrokenOff, IsPartOfStep, IsPartDrained, IsDrainable, IsOfRun, IsWhole, broken_end, broken_if, reads_clock, is_session, turned, next_meaning, end_by, session_end, background_end, timer_end, propagator_end, turn_end}
 use Rattle.aq_world.specs.declared.turn_end.TurnEnd.{TurnEnd}
 use Rattle.aq_world.specs.declared.turn_end.TurnEnd.TheVariants as ends
 use Rattle.aq_world.proofs.OfRun.{of_run-along, of_run-caught_up, of_run-drained, of_run-flushed, of_run-read, of_run-same, of_run-trans}
+use Rattle.aq_world.proofs.Readings.{closing_readings, plus, readings_taken}
 use Rattle.aq_world.proofs.Soundness.{sound_opened, sound_read, step_sound}
 use Rattle.aq_world.proofs.Turning.{timer_actor, sender_actor}
 
@@ -49,7 +55,7 @@ actor_is w actor (inl lt) =
 actor_is w actor (inr (inl e)) = subst (λ a. is_actor w a ≡ true) (sym e) (timer_actor w)
 actor_is w actor (inr (inr e)) = subst (λ a. is_actor w a ≡ true) (sym e) (sender_actor w 65 refl)
 
-module _ (w : World) (r : IsRunning w) where
+module _ (before : List ℕ) (w : World) (r : IsRunning before w) where
   start_valid : IsValidWorld (start_of w)
   start_valid = opens_valid w.home.opening w.away.opening w.scripts r.begins
 
@@ -59,12 +65,9 @@ module _ (w : World) (r : IsRunning w) where
   start_empty : (start_of w).entries ≡ []
   start_empty = entries-opened w.home.opening w.away.opening w.scripts
 
-  clocked : IsOnClock (start_of w) w
-  clocked = record { legal = subst (λ o. IsLegal (start_of w) (step_readings o w.readings) w) r.opening r.legal; opening = r.opening }
-
   start_sound : IsSound (start_of w)
   start_sound =
-      let count = (legal_began (start_of w) (step_readings (start_of w).opening w.readings) w clocked.legal).count in
+      let count = (legal_began (start_of w) before w r.legal).count in
       let few = r.sound.few in
       record {
         valid = start_valid;
@@ -75,60 +78,154 @@ module _ (w : World) (r : IsRunning w) where
             subst IsSoundSession (sym f.2) (record { few = omega arith; pendable = All-nil IsPendable });
       }
 
-  -- a world by the clock's readings is running
-  running_on : (new : World) → IsOnClock (start_of w) new → IsRunning new
-  running_on new c =
-      let rs = step_readings (start_of w).opening new.readings in
-      let b = began_so w.home.opening w.away.opening w.scripts rs new c.legal in
-      let e : start_of new ≡ start_of w = opened_again w.home.opening w.away.opening w.scripts rs new c.legal in
+  -- a world to which legal steps lead is running
+  running_by : (readings : List ℕ) (new : World) → IsLegal (start_of w) readings new → length readings ≡ new.readings → IsRunning readings new
+  running_by readings new legal count =
+      let b = began_so w.home.opening w.away.opening w.scripts readings new legal in
+      let e : start_of new ≡ start_of w = opened_again w.home.opening w.away.opening w.scripts readings new legal in
       record {
         begins = same_begins new.home.opening new.away.opening w.home.opening w.away.opening new.scripts w.scripts b.0 b.1 b.2 r.begins;
-        opening = c.opening ∙ ap (λ v. v.opening) (sym e);
-        legal = subst (λ v. IsLegal v (step_readings new.opening new.readings) new) (sym e) (subst (λ o. IsLegal (start_of w) (step_readings o new.readings) new) (sym c.opening) c.legal);
-        sound = sound_from (start_of w) start_sound rs new c.legal;
+        opening = (legal_began (start_of w) readings new legal).opening ∙ ap (λ v. v.opening) (sym e);
+        legal = subst (λ v. IsLegal v readings new) (sym e) legal;
+        count = count;
+        sound = sound_from (start_of w) start_sound readings new legal;
       }
 
-  running_as : (new v : World) → new ≡ v → IsOnClock (start_of w) v → IsRunning new
-  running_as new v e c = subst IsRunning (sym e) (running_on v c)
+  module _ (reading : ℕ) where
+    -- legal by the readings before the turn, and the one that it may take
+    abbrev On : World → Type 0
+    On v = IsOnReadings (start_of w) before reading v
 
-  -- ---- turns
+    goes : GoesOn (start_of w) On (λ _. reading)
+    goes = on_readings (start_of w) before reading
 
-  turned_if : (b c : Bool) (actor : ℕ) → IsOnClock (start_of w) (if b then session_turn (next_reading w) actor w else (if c then timer_turn (next_reading w) w else propagator_turn (next_reading w) w))
-  turned_if true c actor = session_turn_on (start_of w) start_valid start_kept start_empty w actor clocked
-  turned_if false true actor = timer_on (start_of w) start_valid start_kept start_empty w clocked
-  turned_if false false actor = propagator_on (start_of w) start_valid start_kept start_empty w clocked
+    here : On w
+    here = on_readings_so (start_of w) before reading w r.legal r.count
 
-  undone_running : (new : World) (actor : ℕ) → is_actor w actor ≡ true → IsUndone actor (next_reading w) w new → IsRunning new
-  undone_running new actor by (inl e) = running_as new (read_clock (next_reading w) w) e (read_on (start_of w) start_valid start_kept start_empty w clocked)
-  undone_running new actor by (inr (inl e)) = running_as new (begun actor (next_reading w) w) e (begun_on (start_of w) start_valid start_kept start_empty w actor by clocked)
-  undone_running new actor by (inr (inr e)) =
-      running_as new (flushed actor (begun actor (next_reading w) w)) e (begun_flushed_on (start_of w) start_valid start_kept start_empty w actor by clocked)
+    on_as : (new v : World) → new ≡ v → On v → On new
+    on_as new v e c = subst On (sym e) c
 
-  untold_running : (new : World) (actor : ℕ) → is_actor w actor ≡ true → IsUntold actor w new → IsRunning new
-  untold_running new actor by (inl e) = running_as new w e clocked
-  untold_running new actor by (inr e) = running_as new (flushed actor w) e (flushed_on (start_of w) start_valid start_kept start_empty w actor by clocked)
+    -- ---- turns
 
-  broken_running : (b : Bool) (new : World) (actor : ℕ) → is_actor w actor ≡ true → broken_if b actor (next_reading w) w new → IsRunning new
-  broken_running true new actor by u = undone_running new actor by u
-  broken_running false new actor by u = untold_running new actor by u
+    turned_if : (b c : Bool) (actor : ℕ) → On (if b then session_turn reading actor w else (if c then timer_turn reading w else propagator_turn reading w))
+    turned_if true c actor = session_turn_on (start_of w) start_valid start_kept start_empty On (λ _. reading) goes w actor here
+    turned_if false true actor = timer_on (start_of w) start_valid start_kept start_empty On (λ _. reading) goes w here
+    turned_if false false actor = propagator_on (start_of w) start_valid start_kept start_empty On (λ _. reading) goes w here
 
-  pub turn_leaves : {E : Type 0} (new : World) (actor : ℕ) (turn : Result TurnEnd E) → IsActor w actor → OnOk turn (new ≡ next_turned actor w) → OnErr turn (IsBrokenOff actor (next_reading w) w new) → IsRunning new
-  turn_leaves new actor (Ok end) by ok err = running_as new (next_turned actor w) ok (turned_if (is_session actor) (actor == 64) actor)
-  turn_leaves new actor (Err e) by ok err = broken_running (reads_clock actor w) new actor (actor_is w actor by) err
+    undone_on : (new : World) (actor : ℕ) → is_actor w actor ≡ true → IsUndone actor reading w new → On new
+    undone_on new actor by (inl e) = on_as new (read_clock reading w) e (read_on (start_of w) start_valid start_kept start_empty On (λ _. reading) goes w here)
+    undone_on new actor by (inr (inl e)) = on_as new (begun actor reading w) e (begun_on (start_of w) start_valid start_kept start_empty On (λ _. reading) goes w actor by here)
+    undone_on new actor by (inr (inr e)) =
+        on_as new (flushed actor (begun actor reading w)) e (begun_flushed_on (start_of w) start_valid start_kept start_empty On (λ _. reading) goes w actor by here)
 
-  -- ---- the closing turn
+    untold_on : (new : World) (actor : ℕ) → is_actor w actor ≡ true → IsUntold actor w new → On new
+    untold_on new actor by (inl e) = on_as new w e here
+    untold_on new actor by (inr e) = on_as new (flushed actor w) e (flushed_on (start_of w) start_valid start_kept start_empty On (λ _. reading) goes w actor by here)
 
-  pub drainable : IsDrainable (at_closing w)
-  drainable n = valid_now (start_of w) start_valid start_kept start_empty (drained n (at_closing w)) (drains_on (start_of w) start_valid start_kept start_empty n w clocked)
+    broken_on : (b : Bool) (new : World) (actor : ℕ) → is_actor w actor ≡ true → broken_if b actor reading w new → On new
+    broken_on true new actor by u = undone_on new actor by u
+    broken_on false new actor by u = untold_on new actor by u
 
-  part_running : (new : World) (n : ℕ) → IsPartOfStep (drained n (at_closing w)) new → IsRunning new
-  part_running new n (inl e) = running_as new (drained n (at_closing w)) e (drains_on (start_of w) start_valid start_kept start_empty n w clocked)
-  part_running new n (inr (inl e)) = running_as new (caught_up 66 (drained n (at_closing w))) e (drains_caught_on (start_of w) start_valid start_kept start_empty n w clocked)
-  part_running new n (inr (inr e)) = running_as new (flushed 66 (caught_up 66 (drained n (at_closing w)))) e (drains_flushed_on (start_of w) start_valid start_kept start_empty n w clocked)
+    turn_on : {T E : Type 0} (new : World) (actor : ℕ) (turn : Result T E) → IsActor w actor → OnOk turn (new ≡ turned reading actor w) → OnErr turn (IsBrokenOff actor reading w new) → On new
+    turn_on new actor (Ok x) by ok err = on_as new (turned reading actor w) ok (turned_if (is_session actor) (actor == 64) actor)
+    turn_on new actor (Err e) by ok err = broken_on (reads_clock actor w) new actor (actor_is w actor by) err
 
-  pub closing_leaves : {T E : Type 0} (new : World) (turn : Result T E) → OnOk turn ((steps : ℕ) × DrainsIn (at_closing w) steps × (new ≡ next_closing_turn steps w)) → OnErr turn (IsPartDrained (at_closing w) new) → IsRunning new
-  closing_leaves new (Ok x) ok err = running_as new (next_closing_turn ok.0 w) ok.2 (closing_on (start_of w) start_valid start_kept start_empty ok.0 w clocked)
-  closing_leaves new (Err e) ok err = part_running new err.0 err.1
+    -- ---- the closing turn
+
+    pub drainable : IsDrainable (read_clock reading w)
+    drainable n = valid_now (start_of w) start_valid start_kept start_empty On (λ _. reading) goes (drained n (read_clock reading w)) (drains_on (start_of w) start_valid start_kept start_empty On (λ _. reading) goes n w here)
+
+    part_on : (new : World) (n : ℕ) → IsPartOfStep (drained n (read_clock reading w)) new → On new
+    part_on new n (inl e) = on_as new (drained n (read_clock reading w)) e (drains_on (start_of w) start_valid start_kept start_empty On (λ _. reading) goes n w here)
+    part_on new n (inr (inl e)) =
+        on_as new (caught_up 66 (drained n (read_clock reading w))) e (drains_caught_on (start_of w) start_valid start_kept start_empty On (λ _. reading) goes n w here)
+    part_on new n (inr (inr e)) =
+        on_as new (flushed 66 (caught_up 66 (drained n (read_clock reading w)))) e (drains_flushed_on (start_of w) start_valid start_kept start_empty On (λ _. reading) goes n w here)
+
+    close_on : {T E : Type 0} (new : World) (turn : Result T E) → OnOk turn ((steps : ℕ) × DrainsIn (read_clock reading w) steps × (new ≡ closing_turn reading steps w))
+        → OnErr turn (IsPartDrained (read_clock reading w) new) → On new
+    close_on new (Ok x) ok err = on_as new (closing_turn reading ok.0 w) ok.2 (closing_on (start_of w) start_valid start_kept start_empty On (λ _. reading) goes ok.0 w here)
+    close_on new (Err e) ok err = part_on new err.0 err.1
+
+    -- ---- what the clock gave
+
+    module _ {C : Type 0} (given : C → Option (List ℕ)) (old clock : C) (told : ForSome (given old) (λ rs. rs ≡ before)) (new : World) (on : On new) where
+      running_so : IsRunning on.readings new
+      running_so = running_by on.readings new on.legal on.count
+
+      read_so : new.readings ≡ w.readings + 1 → ForSome (given clock) (HasReading (given old) reading) → IsClocked given clock new
+      read_so more taken = record {
+        readings = on.readings;
+        told = λ rs e.
+            let t = taken rs e in
+            let next = on.next (let c = r.count in omega (arith, more, c)) in
+            t.2 ∙ ap (λ xs. xs ++ reading ∷ []) (told t.0 t.1) ∙ sym next;
+        running = running_so;
+      }
+
+      unread_so : new.readings ≡ w.readings → clock ≡ old → IsClocked given clock new
+      unread_so same e = record {
+        readings = on.readings;
+        told = λ rs f. told rs (sym (ap given e) ∙ f) ∙ sym (on.same (let c = r.count in omega (arith, same, c)));
+        running = running_so;
+      }
+
+      clocked_if : (b : Bool) → new.readings ≡ plus b w.readings → (b ≡ true → ForSome (given clock) (HasReading (given old) reading)) → (b ≡ false → clock ≡ old) → IsClocked given clock new
+      clocked_if true more taken same = read_so more (taken refl)
+      clocked_if false more taken same = unread_so more (same refl)
+
+    pub turn_leaves : {T E C : Type 0} (given : C → Option (List ℕ)) (old clock : C) (told : ForSome (given old) (λ rs. rs ≡ before)) (new : World) (actor : ℕ) (is_read : Bool) (turn : Result T E) → is_read ≡ reads_clock actor w
+        → (is_read ≡ true → ForSome (given clock) (HasReading (given old) reading)) → (is_read ≡ false → clock ≡ old)
+        → IsActor w actor → OnOk turn (new ≡ turned reading actor w) → OnErr turn (IsBrokenOff actor reading w new) → IsClocked given clock new
+    turn_leaves given old clock told new actor is_read turn is taken same by ok err =
+        clocked_if given old clock told new (turn_on new actor turn by ok err) is_read (readings_taken turn reading actor w new ok err ∙ ap (λ b. plus b w.readings) (sym is)) taken same
+
+    pub closing_leaves : {T E C : Type 0} (given : C → Option (List ℕ)) (old clock : C) (told : ForSome (given old) (λ rs. rs ≡ before)) (new : World) (turn : Result T E) → ForSome (given clock) (HasReading (given old) reading)
+        → OnOk turn ((steps : ℕ) × DrainsIn (read_clock reading w) steps × (new ≡ closing_turn reading steps w)) → OnErr turn (IsPartDrained (read_clock reading w) new) → IsClocked given clock new
+    closing_leaves given old clock told new turn taken ok err = read_so given old clock told new (close_on new turn ok err) (closing_readings turn reading w new ok err) taken
+
+-- ---- readings as planned
+
+some_of : {T : Type 0} (o : Option T) → IsSome o → (x : T) × (o ≡ Some x)
+some_of None some = absurd (false≢true some)
+some_of (Some x) some = (x, refl)
+
+-- the last of the readings that a rule gives
+last_planned : (rule : ℕ → ℕ) (before : List ℕ) (reading : ℕ) → before ++ reading ∷ [] ≡ first_readings rule (length (before ++ reading ∷ [])) → reading ≡ rule (length before)
+last_planned rule before reading e =
+    let n : length (before ++ reading ∷ []) ≡ length before + 1 = length-append before (reading ∷ []) in
+    sym (get_or-append_seam before reading [] 0) ∙ ap (λ xs. get_or xs (length before) 0) e
+    ∙ get_or-map-range_with_len rule 0 (length (before ++ reading ∷ [])) (length before) (length before) 0 (omega (arith, n)) (omega arith)
+
+module _ {C : Type 0} (given : C → Option (List ℕ)) (plan : C → Option (ℕ → ℕ))
+    (law : (clock : C) (readings : List ℕ) (rule : ℕ → ℕ) → given clock ≡ Some readings → plan clock ≡ Some rule → readings ≡ first_readings rule (length readings))
+    (number reading : ℕ) (old clock : C) (few : number < 2 ^ 63) (count : ForSome (given old) (λ rs. length rs ≡ number))
+    (taken : ForSome (given clock) (HasReading (given old) reading)) (on : ForSome (given old) (TellsOn (given clock))) (planned : plan clock ≡ plan old) where
+  tells_more : IsSome (given old) → IsSome (given clock)
+  tells_more some = let b = some_of (given old) some in on b.0 b.1 (let n = count b.0 b.1 in omega (arith, few, n))
+
+  planned_so : IsSome (given old) → ForSome (plan old) (λ rule. reading ≡ rule number)
+  planned_so some rule e =
+      let a = some_of (given clock) (tells_more some) in
+      let t = taken a.0 a.1 in
+      let all : t.0 ++ reading ∷ [] ≡ first_readings rule (length (t.0 ++ reading ∷ [])) = subst (λ rs. rs ≡ first_readings rule (length rs)) t.2 (law clock a.0 rule a.1 (planned ∙ e)) in
+      last_planned rule t.0 reading all ∙ ap rule (count t.0 t.1)
+
+  pub takes_reading : TakesReading given plan number reading old clock
+  takes_reading = record { taken = taken; tells = tells_more; planned = planned; as_planned = planned_so }
+
+-- a clock that has given none
+pub told_first : (o : Option (List ℕ)) → o ≡ Some [] → ForSome o (λ rs. rs ≡ [])
+told_first o e rs f = let same : Some rs ≡ Some [] = sym f ∙ e in cc
+
+-- how many readings a clock has given that tells them
+pub told_count : (before : List ℕ) (w : World) (o : Option (List ℕ)) → IsRunning before w → ForSome o (λ rs. rs ≡ before) → ForSome o (λ rs. length rs ≡ w.readings)
+told_count before w o r told rs e = ap length (told rs e) ∙ r.count
+
+pub reads_if : {C : Type 0} (given : C → Option (List ℕ)) (plan : C → Option (ℕ → ℕ)) (b is_read : Bool) (number reading : ℕ) (old clock : C) → is_read ≡ b → (is_read ≡ true → TakesReading given plan number reading old clock) → (is_read ≡ false → clock ≡ old)
+    → Reads given plan b number reading old clock
+reads_if given plan true is_read number reading old clock e takes same = takes e
+reads_if given plan false is_read number reading old clock e takes same = same e
 
 -- how the run began stays where the closing turn is broken off
 part_by : (w new : World) → IsPartOfStep w new → IsOfRun w new
@@ -137,11 +234,11 @@ part_by w new (inr (inl e)) = of_run-along w (caught_up 66 w) new e (of_run-caug
 part_by w new (inr (inr e)) =
     of_run-along w (flushed 66 (caught_up 66 w)) new e (of_run-trans w (caught_up 66 w) (flushed 66 (caught_up 66 w)) (of_run-caught_up 66 w) (of_run-flushed 66 (caught_up 66 w)))
 
-pub part_of_run : (w new : World) → IsPartDrained (at_closing w) new → IsOfRun w new
-part_of_run w new p =
-    let u = at_closing w in
+pub part_of_run : (reading : ℕ) (w new : World) → IsPartDrained (read_clock reading w) new → IsOfRun w new
+part_of_run reading w new p =
+    let u = read_clock reading w in
     let v = drained p.0 u in
-    of_run-trans w v new (of_run-trans w u v (of_run-read (next_reading w) w) (of_run-drained p.0 u)) (part_by v new p.1)
+    of_run-trans w v new (of_run-trans w u v (of_run-read reading w) (of_run-drained p.0 u)) (part_by v new p.1)
 
 -- ---- whole turns
 
@@ -256,18 +353,18 @@ session_is i lt = lt-ltb i 64 lt
 if_true : {X : Type 0} (b : Bool) (x y : X) → b ≡ true → (if b then x else y) ≡ x
 if_true b x y e = rw e refl
 
-pub session_turned : (w : World) (i : ℕ) → i < 64 → next_session_turn i w ≡ next_turned i w
-session_turned w i lt = sym (if_true (is_session i) (session_turn (next_reading w) i w) (if i == 64 then timer_turn (next_reading w) w else propagator_turn (next_reading w) w) (session_is i lt))
+pub session_turned : (reading : ℕ) (w : World) (i : ℕ) → i < 64 → session_turn reading i w ≡ turned reading i w
+session_turned reading w i lt = sym (if_true (is_session i) (session_turn reading i w) (if i == 64 then timer_turn reading w else propagator_turn reading w) (session_is i lt))
 
 pub session_ends : (reading : ℕ) (w : World) (i : ℕ) → i < 64 → session_end reading i (slice_get w.sessions i) w ≡ turn_end reading i w
 unfolding turn_end
 session_ends reading w i lt = sym (if_true (is_session i) (session_end reading i (slice_get w.sessions i) w) (background_end reading i w) (session_is i lt))
 
-pub timer_turned : (w : World) → next_timer_turn w ≡ next_turned 64 w
-timer_turned w = refl
+pub timer_turned : (reading : ℕ) (w : World) → timer_turn reading w ≡ turned reading 64 w
+timer_turned reading w = refl
 
-pub propagator_turned : (w : World) → next_propagator_turn w ≡ next_turned 65 w
-propagator_turned w = refl
+pub propagator_turned : (reading : ℕ) (w : World) → propagator_turn reading w ≡ turned reading 65 w
+propagator_turned reading w = refl
 
 pub timer_ended : (reading : ℕ) (w : World) → background_end reading 64 w ≡ turn_end reading 64 w
 unfolding turn_end
@@ -285,9 +382,9 @@ is_propagator w actor (inr (inr e)) few h = e
 
 -- ---- the beginning
 
-pub opened_running : (home away : Tables) (scripts : List SessionScript) → MayBegin home away scripts → IsRunning (opened home away scripts)
+pub opened_running : (home away : Tables) (scripts : List SessionScript) → MayBegin home away scripts → IsRunning [] (opened home away scripts)
 unfolding opened
-opened_running home away scripts m = record { begins = m; opening = refl; legal = opens; sound = sound_opened home away scripts m }
+opened_running home away scripts m = record { begins = m; opening = refl; legal = opens; count = refl; sound = sound_opened home away scripts m }
 
 home-opened : (home away : Tables) (scripts : List SessionScript) → (opened home away scripts).home.opening ≡ home
 unfolding opened

@@ -1,6 +1,6 @@
 -- What turns come to.
 use Rattle.std.proofs.Common.{◌≡◌, ◌<◌, ◌-◌, ◌^◌, inl, inr, ℕ, suc, Bool, true, false, not, Option, Some, None, Result, refl, sym, ap, subst, ◌∙◌, option_map, arith}
-use Rattle.std.specs.Prelude.{Ok, Err, OnErr, ◌||◌, ◌&&◌, ◌==◌, nat_lt, slice_get, is_some, if◌then◌else◌, IfSome, length}
+use Rattle.std.specs.Prelude.{Ok, Err, OnOk, OnErr, ◌||◌, ◌&&◌, ◌==◌, nat_lt, slice_get, is_some, if◌then◌else◌, IfSome, length}
 use Rattle.std.proofs.lemmas.Bool.{or_left, or_right, lt-ltb, le-ltb}
 use Rattle.std.proofs.lemmas.Option.{none-some, slice_get_within}
 use Rattle.queue_rows.specs.Order.{IsFront}
@@ -10,9 +10,8 @@ use Rattle.sessions.specs.declared.state.SessionState.{SessionState}
 use Rattle.sessions.specs.declared.state.Untold as kept
 use Rattle.queue_rows.specs.World.{World, read_clock}
 use Rattle.queue_rows.specs.Sending.{next_sending}
-use Rattle.queue_rows.specs.Serial.{at_closing, next_closing_turn, next_session_turn, next_timer_turn, next_propagator_turn}
 use Rattle.queue_rows.specs.Statements.{next_statement}
-use Rattle.queue_rows.specs.Turns.{next_reading, is_due, timed, caught_up, begun, own_turn, flushed, told, any_live, propagated, drained, drained_once, is_still, closing_turn, DrainsIn}
+use Rattle.queue_rows.specs.Turns.{is_due, timed, caught_up, begun, own_turn, flushed, told, any_live, propagated, drained, drained_once, is_still, session_turn, timer_turn, propagator_turn, closing_turn, DrainsIn}
 use Rattle.queue_rows.specs.Legal.{is_actor, is_sender}
 use Rattle.run_laws.specs.ValidRun.{IsValidWorld}
 use Rattle.run_laws.proofs.Worlds.{step_keeps_valid}
@@ -73,52 +72,62 @@ actor-read reading actor w = refl
 sound_begun : (actor reading : ℕ) (w v : World) → v ≡ begun actor reading w → is_actor w actor ≡ true → IsSound w → IsSound v
 sound_begun actor reading w v e by k = subst IsSound (sym e) (sound_caught actor (read_clock reading w) (actor-read reading actor w ∙ by) (sound_read w reading k))
 
-pub sound_at_call : (w v : World) (i : ℕ) → IsCalling w i → v ≡ begun i (next_reading w) w → IsSound w → IsSound v
-sound_at_call w v i k e sound = sound_begun i (next_reading w) w v e (own_actor w i k.session k.there) sound
+pub sound_at_call : (reading : ℕ) (w v : World) (i : ℕ) → IsCalling w i → v ≡ begun i reading w → IsSound w → IsSound v
+sound_at_call reading w v i k e sound = sound_begun i reading w v e (own_actor w i k.session k.there) sound
 
 -- ---- tellings
 
-pub told_whole : (w new : World) (i n : ℕ) → IsOwed w i n → OfSession i w (λ s. new ≡ told i s n w) → new ≡ next_session_turn i w
-told_whole w new i n k is =
+pub told_whole : (w new : World) (i n : ℕ) → IsOwed w i n → OfSession i w (λ s. new ≡ told i s n w) → (reading : ℕ) → new ≡ session_turn reading i w
+told_whole w new i n k is reading =
     of_some (λ s. new ≡ told i s n w) (slice_get w.sessions i) k.session k.there is
-    ∙ ap (λ m. told i k.session m w) (sym k.number_is) ∙ sym (session_tells (next_reading w) i k.session k.untold w k.there k.called)
+    ∙ ap (λ m. told i k.session m w) (sym k.number_is) ∙ sym (session_tells reading i k.session k.untold w k.there k.called)
 
-told_front : (w : World) (i n : ℕ) → IsOwed w i n → IsFront (flushed i w).entries (next_session_turn i w).entries
-told_front w i n k =
-    subst (λ v. IsFront (flushed i w).entries v.entries) (sym (session_tells (next_reading w) i k.session k.untold w k.there k.called)) (grows_told i k.session k.untold.number w)
+told_front : (reading : ℕ) (w : World) (i n : ℕ) → IsOwed w i n → IsFront (flushed i w).entries (session_turn reading i w).entries
+told_front reading w i n k =
+    subst (λ v. IsFront (flushed i w).entries v.entries) (sym (session_tells reading i k.session k.untold w k.there k.called)) (grows_told i k.session k.untold.number w)
 
-pub untold_front : (w new : World) (i n : ℕ) → IsOwed w i n → IsUntold i w new → IsFront new.entries (next_session_turn i w).entries
-untold_front w new i n k (inl e) =
-    subst (λ v. IsFront v.entries (next_session_turn i w).entries) (sym e) (front_trans w.entries (flushed i w).entries (next_session_turn i w).entries (grows_flushed i w) (told_front w i n k))
-untold_front w new i n k (inr e) = subst (λ v. IsFront v.entries (next_session_turn i w).entries) (sym e) (told_front w i n k)
+pub untold_front : (w new : World) (i n : ℕ) → IsOwed w i n → IsUntold i w new → (reading : ℕ) → IsFront new.entries (session_turn reading i w).entries
+untold_front w new i n k (inl e) reading =
+    subst (λ v. IsFront v.entries (session_turn reading i w).entries) (sym e)
+    (front_trans w.entries (flushed i w).entries (session_turn reading i w).entries (grows_flushed i w) (told_front reading w i n k))
+untold_front w new i n k (inr e) reading = subst (λ v. IsFront v.entries (session_turn reading i w).entries) (sym e) (told_front reading w i n k)
+
+-- what is said for each reading is said for one
+pub ok_at : {T E : Type 0} (P : ℕ → Type 0) (r : Result T E) (n : ℕ) → OnOk r ((m : ℕ) → P m) → OnOk r (P n)
+ok_at P (Ok x) n p = p n
+ok_at P (Err x) n p = _
+
+pub err_at : {T E : Type 0} (P : ℕ → Type 0) (r : Result T E) (n : ℕ) → OnErr r ((m : ℕ) → P m) → OnErr r (P n)
+err_at P (Ok x) n p = _
+err_at P (Err x) n p = p n
 
 -- ---- calls, waits and ends
 
-there_begun : (w v : World) (i : ℕ) (s : Session) → v ≡ begun i (next_reading w) w → slice_get w.sessions i ≡ Some s → slice_get v.sessions i ≡ Some s
-there_begun w v i s e there = ap (λ x. slice_get x.sessions i) e ∙ ap (λ ss. slice_get ss i) (sessions-begun i (next_reading w) w) ∙ there
+there_begun : (reading : ℕ) (w v : World) (i : ℕ) (s : Session) → v ≡ begun i reading w → slice_get w.sessions i ≡ Some s → slice_get v.sessions i ≡ Some s
+there_begun reading w v i s e there = ap (λ x. slice_get x.sessions i) e ∙ ap (λ ss. slice_get ss i) (sessions-begun i reading w) ∙ there
 
-pub called_whole : (w v new : World) (i : ℕ) → IsCalling w i → v ≡ begun i (next_reading w) w → OfSession i v (λ s. new ≡ own_turn i s (next_statement v i s) v) → new ≡ next_session_turn i w
-called_whole w v new i k e is =
+pub called_whole : (reading : ℕ) (w v new : World) (i : ℕ) → IsCalling w i → v ≡ begun i reading w → OfSession i v (λ s. new ≡ own_turn i s (next_statement v i s) v) → new ≡ session_turn reading i w
+called_whole reading w v new i k e is =
     let s = k.session in
-    of_some (λ t. new ≡ own_turn i t (next_statement v i t) v) (slice_get v.sessions i) s (there_begun w v i s e k.there) is
-    ∙ ap (λ x. own_turn i s (next_statement x i s) x) e ∙ sym (session_calls (next_reading w) i s w k.there k.told k.live)
+    of_some (λ t. new ≡ own_turn i t (next_statement v i t) v) (slice_get v.sessions i) s (there_begun reading w v i s e k.there) is
+    ∙ ap (λ x. own_turn i s (next_statement x i s) x) e ∙ sym (session_calls reading i s w k.there k.told k.live)
 
 end_calls : (reading i : ℕ) (s : Session) (w : World) (o : Option Session) → o ≡ Some s → s.untold ≡ None → s.live ≡ true → session_end reading i o w ≡ end_by (next_meaning (begun i reading w) i s)
 end_calls reading i s w o e told live = ap (λ x. session_end reading i x w) e ∙ rw (told, live) refl
 
-pub called_end : (w v : World) (i : ℕ) (end : TurnEnd) → IsCalling w i → v ≡ begun i (next_reading w) w → OfSession i v (λ s. end ≡ end_by (next_meaning v i s))
-    → end ≡ session_end (next_reading w) i (slice_get w.sessions i) w
-called_end w v i end k e is =
+pub called_end : (reading : ℕ) (w v : World) (i : ℕ) (end : TurnEnd) → IsCalling w i → v ≡ begun i reading w → OfSession i v (λ s. end ≡ end_by (next_meaning v i s))
+    → end ≡ session_end reading i (slice_get w.sessions i) w
+called_end reading w v i end k e is =
     let s = k.session in
-    of_some (λ t. end ≡ end_by (next_meaning v i t)) (slice_get v.sessions i) s (there_begun w v i s e k.there) is
-    ∙ ap (λ x. end_by (next_meaning x i s)) e ∙ sym (end_calls (next_reading w) i s w (slice_get w.sessions i) k.there k.told k.live)
+    of_some (λ t. end ≡ end_by (next_meaning v i t)) (slice_get v.sessions i) s (there_begun reading w v i s e k.there) is
+    ∙ ap (λ x. end_by (next_meaning x i s)) e ∙ sym (end_calls reading i s w (slice_get w.sessions i) k.there k.told k.live)
 
-pub begun_front : (w v new : World) (i : ℕ) → IsCalling w i → v ≡ begun i (next_reading w) w → new ≡ v → IsFront new.entries (next_session_turn i w).entries
-begun_front w v new i k e f =
-    subst (λ x. IsFront x.entries (next_session_turn i w).entries) (sym (f ∙ e)) (session_grows_begun (next_reading w) i k.session w k.there k.told k.live)
+pub begun_front : (reading : ℕ) (w v new : World) (i : ℕ) → IsCalling w i → v ≡ begun i reading w → new ≡ v → IsFront new.entries (session_turn reading i w).entries
+begun_front reading w v new i k e f =
+    subst (λ x. IsFront x.entries (session_turn reading i w).entries) (sym (f ∙ e)) (session_grows_begun reading i k.session w k.there k.told k.live)
 
-pub read_front : (w new : World) (i : ℕ) → IsCalling w i → new ≡ read_clock (next_reading w) w → IsFront new.entries (next_session_turn i w).entries
-read_front w new i k e = subst (λ x. IsFront x.entries (next_session_turn i w).entries) (sym e) (session_grows_read (next_reading w) i k.session w k.there k.told k.live)
+pub read_front : (reading : ℕ) (w new : World) (i : ℕ) → IsCalling w i → new ≡ read_clock reading w → IsFront new.entries (session_turn reading i w).entries
+read_front reading w new i k e = subst (λ x. IsFront x.entries (session_turn reading i w).entries) (sym e) (session_grows_read reading i k.session w k.there k.told k.live)
 
 -- ---- a session's turn
 
@@ -144,30 +153,30 @@ calling_so w i state e f live =
     let s = found (slice_get w.sessions i) state e in
     record { session = s.0; there = s.1; told = sym (ap (λ t. t.untold) s.2) ∙ ap (option_map untold_as) f; live = sym (ap (λ t. t.live) s.2) ∙ live }
 
-pub none_whole : (w : World) (i : ℕ) → None ≡ option_map unmarked (slice_get w.sessions i) → w ≡ next_session_turn i w
-none_whole w i e = sym (session_none (next_reading w) i w (missing (slice_get w.sessions i) e))
+pub none_whole : (reading : ℕ) (w : World) (i : ℕ) → None ≡ option_map unmarked (slice_get w.sessions i) → w ≡ session_turn reading i w
+none_whole reading w i e = sym (session_none reading i w (missing (slice_get w.sessions i) e))
 
-pub none_end : (w : World) (i : ℕ) → None ≡ option_map unmarked (slice_get w.sessions i) → Ended ≡ session_end (next_reading w) i (slice_get w.sessions i) w
-none_end w i e = sym (ap (λ o. session_end (next_reading w) i o w) (missing (slice_get w.sessions i) e))
+pub none_end : (reading : ℕ) (w : World) (i : ℕ) → None ≡ option_map unmarked (slice_get w.sessions i) → Ended ≡ session_end reading i (slice_get w.sessions i) w
+none_end reading w i e = sym (ap (λ o. session_end reading i o w) (missing (slice_get w.sessions i) e))
 
-pub over_whole : (w : World) (i : ℕ) (state : SessionState) → option_map session_of (Some state) ≡ option_map unmarked (slice_get w.sessions i) → state.untold ≡ None → state.live ≡ false → w ≡ next_session_turn i w
-over_whole w i state e f dead =
+pub over_whole : (reading : ℕ) (w : World) (i : ℕ) (state : SessionState) → option_map session_of (Some state) ≡ option_map unmarked (slice_get w.sessions i) → state.untold ≡ None → state.live ≡ false → w ≡ session_turn reading i w
+over_whole reading w i state e f dead =
     let s = found (slice_get w.sessions i) state e in
-    sym (session_over (next_reading w) i s.0 w s.1 (sym (ap (λ t. t.untold) s.2) ∙ ap (option_map untold_as) f) (sym (ap (λ t. t.live) s.2) ∙ dead))
+    sym (session_over reading i s.0 w s.1 (sym (ap (λ t. t.untold) s.2) ∙ ap (option_map untold_as) f) (sym (ap (λ t. t.live) s.2) ∙ dead))
 
 end_over : (reading i : ℕ) (s : Session) (w : World) (o : Option Session) → o ≡ Some s → s.untold ≡ None → s.live ≡ false → session_end reading i o w ≡ Ended
 end_over reading i s w o e told dead = ap (λ x. session_end reading i x w) e ∙ rw (told, dead) refl
 
-pub over_end : (w : World) (i : ℕ) (state : SessionState) → option_map session_of (Some state) ≡ option_map unmarked (slice_get w.sessions i) → state.untold ≡ None → state.live ≡ false → Ended ≡ session_end (next_reading w) i (slice_get w.sessions i) w
-over_end w i state e f dead =
+pub over_end : (reading : ℕ) (w : World) (i : ℕ) (state : SessionState) → option_map session_of (Some state) ≡ option_map unmarked (slice_get w.sessions i) → state.untold ≡ None → state.live ≡ false → Ended ≡ session_end reading i (slice_get w.sessions i) w
+over_end reading w i state e f dead =
     let s = found (slice_get w.sessions i) state e in
-    sym (end_over (next_reading w) i s.0 w (slice_get w.sessions i) s.1 (sym (ap (λ t. t.untold) s.2) ∙ ap (option_map untold_as) f) (sym (ap (λ t. t.live) s.2) ∙ dead))
+    sym (end_over reading i s.0 w (slice_get w.sessions i) s.1 (sym (ap (λ t. t.untold) s.2) ∙ ap (option_map untold_as) f) (sym (ap (λ t. t.live) s.2) ∙ dead))
 
 end_owed : (reading i : ℕ) (s : Session) (u : Untold) (w : World) (o : Option Session) → o ≡ Some s → s.untold ≡ Some u → session_end reading i o w ≡ Done
 end_owed reading i s u w o e told = ap (λ x. session_end reading i x w) e ∙ rw told refl
 
-pub told_end : (w : World) (i n : ℕ) (end : TurnEnd) → IsOwed w i n → end ≡ Done → end ≡ session_end (next_reading w) i (slice_get w.sessions i) w
-told_end w i n end k e = e ∙ sym (end_owed (next_reading w) i k.session k.untold w (slice_get w.sessions i) k.there k.called)
+pub told_end : (reading : ℕ) (w : World) (i n : ℕ) (end : TurnEnd) → IsOwed w i n → end ≡ Done → end ≡ session_end reading i (slice_get w.sessions i) w
+told_end reading w i n end k e = e ∙ sym (end_owed reading i k.session k.untold w (slice_get w.sessions i) k.there k.called)
 
 -- ---- turns that are broken off
 
@@ -193,11 +202,11 @@ reads_owed false = refl
 owed_reads : (w : World) (i n : ℕ) → i < 64 → IsOwed w i n → reads_clock i w ≡ false
 owed_reads w i n lt k = rw (below i lt, k.there, k.called) (reads_owed k.session.live)
 
-pub calling_broken : (w new : World) (i : ℕ) → i < 64 → IsCalling w i → IsUndone i (next_reading w) w new → IsBrokenOff i (next_reading w) w new
-calling_broken w new i lt k u = undone_broken i (next_reading w) w new (calling_reads w i lt k) u
+pub calling_broken : (reading : ℕ) (w new : World) (i : ℕ) → i < 64 → IsCalling w i → IsUndone i reading w new → IsBrokenOff i reading w new
+calling_broken reading w new i lt k u = undone_broken i reading w new (calling_reads w i lt k) u
 
-pub owed_broken : (w new : World) (i n : ℕ) → i < 64 → IsOwed w i n → IsUntold i w new → IsBrokenOff i (next_reading w) w new
-owed_broken w new i n lt k u = untold_broken i (next_reading w) w new (owed_reads w i n lt k) u
+pub owed_broken : (reading : ℕ) (w new : World) (i n : ℕ) → i < 64 → IsOwed w i n → IsUntold i w new → IsBrokenOff i reading w new
+owed_broken reading w new i n lt k u = untold_broken i reading w new (owed_reads w i n lt k) u
 
 -- ---- the timer and the propagator
 
@@ -207,39 +216,39 @@ timer_reads w e = rw e refl
 propagator_reads : (w : World) → any_live w ≡ true → reads_clock 65 w ≡ true
 propagator_reads w e = rw e refl
 
-pub timer_broken : (w new : World) → any_live w ≡ true → new ≡ read_clock (next_reading w) w → IsBrokenOff 64 (next_reading w) w new
-timer_broken w new e f = undone_broken 64 (next_reading w) w new (timer_reads w e) (inl f)
+pub timer_broken : (reading : ℕ) (w new : World) → any_live w ≡ true → new ≡ read_clock reading w → IsBrokenOff 64 reading w new
+timer_broken reading w new e f = undone_broken 64 reading w new (timer_reads w e) (inl f)
 
-pub propagator_broken_read : (w new : World) → any_live w ≡ true → new ≡ read_clock (next_reading w) w → IsBrokenOff 65 (next_reading w) w new
-propagator_broken_read w new e f = undone_broken 65 (next_reading w) w new (propagator_reads w e) (inl f)
+pub propagator_broken_read : (reading : ℕ) (w new : World) → any_live w ≡ true → new ≡ read_clock reading w → IsBrokenOff 65 reading w new
+propagator_broken_read reading w new e f = undone_broken 65 reading w new (propagator_reads w e) (inl f)
 
 undone_untold : (actor reading : ℕ) (w v new : World) → v ≡ begun actor reading w → IsUntold actor v new → IsUndone actor reading w new
 undone_untold actor reading w v new e (inl f) = inr (inl (f ∙ e))
 undone_untold actor reading w v new e (inr f) = inr (inr (f ∙ ap (flushed actor) e))
 
-pub propagator_broken : (w v new : World) → any_live w ≡ true → v ≡ begun 65 (next_reading w) w → IsUntold 65 v new → IsBrokenOff 65 (next_reading w) w new
-propagator_broken w v new e f u = undone_broken 65 (next_reading w) w new (propagator_reads w e) (undone_untold 65 (next_reading w) w v new f u)
+pub propagator_broken : (reading : ℕ) (w v new : World) → any_live w ≡ true → v ≡ begun 65 reading w → IsUntold 65 v new → IsBrokenOff 65 reading w new
+propagator_broken reading w v new e f u = undone_broken 65 reading w new (propagator_reads w e) (undone_untold 65 reading w v new f u)
 
-pub timer_whole : (w new : World) → any_live w ≡ true → new ≡ begun 64 (next_reading w) w → new ≡ next_timer_turn w
-timer_whole w new e f = f ∙ sym (timer_goes (next_reading w) w e)
+pub timer_whole : (reading : ℕ) (w new : World) → any_live w ≡ true → new ≡ begun 64 reading w → new ≡ timer_turn reading w
+timer_whole reading w new e f = f ∙ sym (timer_goes reading w e)
 
-pub timer_over : (w : World) → any_live w ≡ false → w ≡ next_timer_turn w
-timer_over w e = sym (timer_rests (next_reading w) w e)
+pub timer_over : (reading : ℕ) (w : World) → any_live w ≡ false → w ≡ timer_turn reading w
+timer_over reading w e = sym (timer_rests reading w e)
 
-pub timer_front : (w new : World) → any_live w ≡ true → new ≡ read_clock (next_reading w) w → IsFront new.entries (next_timer_turn w).entries
-timer_front w new e f = subst (λ x. IsFront x.entries (next_timer_turn w).entries) (sym f) (timer_grows_read (next_reading w) w e)
+pub timer_front : (reading : ℕ) (w new : World) → any_live w ≡ true → new ≡ read_clock reading w → IsFront new.entries (timer_turn reading w).entries
+timer_front reading w new e f = subst (λ x. IsFront x.entries (timer_turn reading w).entries) (sym f) (timer_grows_read reading w e)
 
-pub propagator_whole : (w v new : World) → any_live w ≡ true → v ≡ begun 65 (next_reading w) w → new ≡ propagated 65 v → new ≡ next_propagator_turn w
-propagator_whole w v new e f g = g ∙ ap (propagated 65) f ∙ sym (propagator_goes (next_reading w) w e)
+pub propagator_whole : (reading : ℕ) (w v new : World) → any_live w ≡ true → v ≡ begun 65 reading w → new ≡ propagated 65 v → new ≡ propagator_turn reading w
+propagator_whole reading w v new e f g = g ∙ ap (propagated 65) f ∙ sym (propagator_goes reading w e)
 
-pub propagator_over : (w : World) → any_live w ≡ false → w ≡ next_propagator_turn w
-propagator_over w e = sym (propagator_rests (next_reading w) w e)
+pub propagator_over : (reading : ℕ) (w : World) → any_live w ≡ false → w ≡ propagator_turn reading w
+propagator_over reading w e = sym (propagator_rests reading w e)
 
-pub propagator_read_front : (w new : World) → any_live w ≡ true → new ≡ read_clock (next_reading w) w → IsFront new.entries (next_propagator_turn w).entries
-propagator_read_front w new e f = subst (λ x. IsFront x.entries (next_propagator_turn w).entries) (sym f) (propagator_grows_read (next_reading w) w e)
+pub propagator_read_front : (reading : ℕ) (w new : World) → any_live w ≡ true → new ≡ read_clock reading w → IsFront new.entries (propagator_turn reading w).entries
+propagator_read_front reading w new e f = subst (λ x. IsFront x.entries (propagator_turn reading w).entries) (sym f) (propagator_grows_read reading w e)
 
-pub propagator_front : (w v new : World) → any_live w ≡ true → v ≡ begun 65 (next_reading w) w → IsFront new.entries (propagated 65 v).entries → IsFront new.entries (next_propagator_turn w).entries
-propagator_front w v new e f g = subst (λ x. IsFront new.entries x.entries) (propagator_whole w v (propagated 65 v) e f refl) g
+pub propagator_front : (reading : ℕ) (w v new : World) → any_live w ≡ true → v ≡ begun 65 reading w → IsFront new.entries (propagated 65 v).entries → IsFront new.entries (propagator_turn reading w).entries
+propagator_front reading w v new e f g = subst (λ x. IsFront new.entries x.entries) (propagator_whole reading w v (propagated 65 v) e f refl) g
 
 pub over_ends : (reading actor : ℕ) (w : World) → any_live w ≡ false → Ended ≡ background_end reading actor w
 over_ends reading actor w e = rw e refl
@@ -247,15 +256,15 @@ over_ends reading actor w e = rw e refl
 pub timer_ends : (reading : ℕ) (w : World) (due : Bool) → any_live w ≡ true → due ≡ is_due (read_clock reading w) → (if due then Done else Idle) ≡ background_end reading 64 w
 timer_ends reading w due e f = ap (λ b. if b then Done else Idle) f ∙ sym (rw e refl)
 
-pub propagator_ends : (w v : World) (due sends : Bool) → any_live w ≡ true → due ≡ is_due (read_clock (next_reading w) w) → v ≡ begun 65 (next_reading w) w → sends ≡ is_some (next_sending v)
-    → (if due || sends then Done else Idle) ≡ background_end (next_reading w) 65 w
-propagator_ends w v due sends e f g h =
-    let s : sends ≡ is_some (next_sending (begun 65 (next_reading w) w)) = h ∙ ap (λ x. is_some (next_sending x)) g in
-    ap (λ b. if b || sends then Done else Idle) f ∙ ap (λ b. if is_due (read_clock (next_reading w) w) || b then Done else Idle) s ∙ sym (rw e refl)
+pub propagator_ends : (reading : ℕ) (w v : World) (due sends : Bool) → any_live w ≡ true → due ≡ is_due (read_clock reading w) → v ≡ begun 65 reading w → sends ≡ is_some (next_sending v)
+    → (if due || sends then Done else Idle) ≡ background_end reading 65 w
+propagator_ends reading w v due sends e f g h =
+    let s : sends ≡ is_some (next_sending (begun 65 reading w)) = h ∙ ap (λ x. is_some (next_sending x)) g in
+    ap (λ b. if b || sends then Done else Idle) f ∙ ap (λ b. if is_due (read_clock reading w) || b then Done else Idle) s ∙ sym (rw e refl)
 
 -- the propagator's world, once it has begun, is valid
-pub valid_begun : (w v : World) → v ≡ begun 65 (next_reading w) w → IsSound w → IsValidWorld v
-valid_begun w v e k = (sound_begun 65 (next_reading w) w v e (sender_actor w 65 refl) k).valid
+pub valid_begun : (reading : ℕ) (w v : World) → v ≡ begun 65 reading w → IsSound w → IsValidWorld v
+valid_begun reading w v e k = (sound_begun 65 reading w v e (sender_actor w 65 refl) k).valid
 
 -- ---- the closing turn
 
@@ -319,21 +328,21 @@ less_room v new more f g h room =
     let same = ap (λ x. length x.entries) h in
     omega (arith, longer, same, room)
 
-pub drainable_behind : (w v : World) → v ≡ at_closing w → IsDrainable (at_closing w) → IsDrainable v
-drainable_behind w v e d = subst IsDrainable (sym e) d
+pub drainable_behind : (reading : ℕ) (w v : World) → v ≡ read_clock reading w → IsDrainable (read_clock reading w) → IsDrainable v
+drainable_behind reading w v e d = subst IsDrainable (sym e) d
 
-pub closed_so : (w v u new : World) → v ≡ at_closing w → (steps : ℕ) × DrainsIn v steps × (u ≡ drained steps v) → new ≡ flushed 66 u → (steps : ℕ) × DrainsIn (at_closing w) steps × (new ≡ next_closing_turn steps w)
+pub closed_so : (reading : ℕ) (w v u new : World) → v ≡ read_clock reading w → (steps : ℕ) × DrainsIn v steps × (u ≡ drained steps v) → new ≡ flushed 66 u → (steps : ℕ) × DrainsIn (read_clock reading w) steps × (new ≡ closing_turn reading steps w)
 unfolding closing_turn
-closed_so w v u new e d f = (d.0, subst (λ x. DrainsIn x d.0) e d.1, f ∙ ap (flushed 66) (d.2 ∙ ap (drained d.0) e))
+closed_so reading w v u new e d f = (d.0, subst (λ x. DrainsIn x d.0) e d.1, f ∙ ap (flushed 66) (d.2 ∙ ap (drained d.0) e))
 
-pub part_behind : (w v new : World) → v ≡ at_closing w → IsPartDrained v new → IsPartDrained (at_closing w) new
-part_behind w v new e p = subst (λ x. IsPartDrained x new) e p
+pub part_behind : (reading : ℕ) (w v new : World) → v ≡ read_clock reading w → IsPartDrained v new → IsPartDrained (read_clock reading w) new
+part_behind reading w v new e p = subst (λ x. IsPartDrained x new) e p
 
-pub closed_part : (w v u new : World) → v ≡ at_closing w → (steps : ℕ) × DrainsIn v steps × (u ≡ drained steps v) → new ≡ u → IsPartDrained (at_closing w) new
-closed_part w v u new e d f = (d.0, inl (f ∙ d.2 ∙ ap (drained d.0) e))
+pub closed_part : (reading : ℕ) (w v u new : World) → v ≡ read_clock reading w → (steps : ℕ) × DrainsIn v steps × (u ≡ drained steps v) → new ≡ u → IsPartDrained (read_clock reading w) new
+closed_part reading w v u new e d f = (d.0, inl (f ∙ d.2 ∙ ap (drained d.0) e))
 
-pub unclosed_behind : (w v new : World) → v ≡ at_closing w → (steps : ℕ) × IsFront new.entries (drained steps v).entries → IsUnclosed w new
-unclosed_behind w v new e f = subst (λ x. (steps : ℕ) × IsFront new.entries (drained steps x).entries) e f
+pub unclosed_behind : (reading : ℕ) (w v new : World) → v ≡ read_clock reading w → (steps : ℕ) × IsFront new.entries (drained steps v).entries → IsUnclosed reading w new
+unclosed_behind reading w v new e f = subst (λ x. (steps : ℕ) × IsFront new.entries (drained steps x).entries) e f
 
-pub unclosed_at_flush : (w v u new : World) → v ≡ at_closing w → (steps : ℕ) × DrainsIn v steps × (u ≡ drained steps v) → new ≡ u → IsUnclosed w new
-unclosed_at_flush w v u new e d f = (d.0, front_same (ap (λ x. x.entries) (sym (f ∙ d.2 ∙ ap (drained d.0) e))))
+pub unclosed_at_flush : (reading : ℕ) (w v u new : World) → v ≡ read_clock reading w → (steps : ℕ) × DrainsIn v steps × (u ≡ drained steps v) → new ≡ u → IsUnclosed reading w new
+unclosed_at_flush reading w v u new e d f = (d.0, front_same (ap (λ x. x.entries) (sym (f ∙ d.2 ∙ ap (drained d.0) e))))

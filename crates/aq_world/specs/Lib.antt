@@ -1,4 +1,5 @@
 pub mod Calling
+pub mod Clocked
 pub mod Going
 pub mod Mounting
 pub mod Sendings

@@ -1,7 +1,6 @@
 -- What holds of a run between its turns.
-use Rattle.std.specs.Prelude.{◌≡◌, ◌≤◌, ℕ, Some, All, length, slice_get}
+use Rattle.std.specs.Prelude.{◌≡◌, ◌≤◌, ℕ, List, Some, All, length, slice_get}
 use Rattle.queue_rows.specs.Session.{Session}
-use Rattle.queue_rows.specs.Turns.{step_readings}
 use Rattle.sessions.specs.Numbers.{IsPendable}
 use Rattle.world_laws.specs.WorldLaws.{MayBegin}
 use Rattle.queue_rows.specs.Legal.{IsLegal}
@@ -25,9 +24,10 @@ pub record IsSound (w : World) : Type 0 where
 abbrev pub start_of : World → World
 start_of w = opened w.home.opening w.away.opening w.scripts
 
--- legal steps led to the world, by the readings of the clock that counts seconds from the opening moment
-pub record IsRunning (w : World) : Type 0 where
+-- legal steps led to the world, by these readings of the clock
+pub record IsRunning (readings : List ℕ) (w : World) : Type 0 where
   pub begins : MayBegin w.home.opening w.away.opening w.scripts
   pub opening : w.opening ≡ (start_of w).opening
-  pub legal : IsLegal (start_of w) (step_readings w.opening w.readings) w
+  pub legal : IsLegal (start_of w) readings w
+  pub count : length readings ≡ w.readings
   pub sound : IsSound w

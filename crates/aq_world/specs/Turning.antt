@@ -6,7 +6,7 @@ use Rattle.queue_rows.specs.Meaning.{Meaning, answers, parks}
 use Rattle.queue_rows.specs.Statements.{meaning, next_statement}
 use Rattle.queue_rows.specs.Sending.{next_sending}
 use Rattle.queue_rows.specs.World.{World, read_clock}
-use Rattle.queue_rows.specs.Turns.{session_turn, timer_turn, propagator_turn, any_live, is_due, caught_up, begun, flushed, drained, next_reading}
+use Rattle.queue_rows.specs.Turns.{session_turn, timer_turn, propagator_turn, any_live, is_due, caught_up, begun, flushed, drained}
 use Rattle.run_laws.specs.ValidRun.{IsValidWorld}
 use Rattle.run_state.specs.Entries.{IsUntold}
 use Rattle.durable_state.specs.declared.broken.Broken.{Broken}
@@ -25,10 +25,6 @@ IsActor w actor = (actor < length w.sessions) ⊎ ((actor ≡ 64) ⊎ (actor ≡
 abbrev pub turned : ℕ → ℕ → World → World
 turned reading actor w = if is_session actor then session_turn reading actor w
     else (if actor == 64 then timer_turn reading w else propagator_turn reading w)
-
--- the same with the next reading of the clock that counts seconds
-abbrev pub next_turned : ℕ → World → World
-next_turned actor w = turned (next_reading w) actor w
 
 -- ---- which turns take a reading
 
@@ -129,8 +125,8 @@ pub record IsCalling (w : World) (i : ℕ) : Type 0 where
 -- ---- the closing turn
 
 -- the closing turn was broken off: there are the first entries of some number of its steps
-abbrev pub IsUnclosed : World → World → Type 0
-IsUnclosed old new = (n : ℕ) × IsFront new.entries (drained n (read_clock (next_reading old) old)).entries
+abbrev pub IsUnclosed : ℕ → World → World → Type 0
+IsUnclosed reading old new = (n : ℕ) × IsFront new.entries (drained n (read_clock reading old)).entries
 
 -- a step of it was broken off: at most what was due was done, and then commits were made durable
 abbrev pub IsPartOfStep : World → World → Type 0

@@ -12,4 +12,4 @@ mod world;
 
 pub use mount::{MountCause, MountFault};
 pub use turn_end::TurnEnd;
-pub use world::World;
+pub use world::{Finished, World};

@@ -1,22 +1,26 @@
 // The turns of the sessions, the timer, the propagator and the closing turn.
 ghost use Rattle.std.specs.Prelude.{◌≡◌, ◌<◌, ◌^◌, ℕ, not, length, OnOk, OnErr, IfOk, slice_get};
 ghost use Rattle.queue_rows.specs.Order.{IsFront};
-ghost use Rattle.queue_rows.specs.Serial.{at_closing, next_closing_turn, next_propagator_turn, next_session_turn, next_timer_turn};
-ghost use Rattle.queue_rows.specs.Turns.{drained, drained_once, is_still, next_reading, DrainsIn};
+ghost use Rattle.queue_rows.specs.Turns.{closing_turn, drained, drained_once, is_still, propagator_turn, session_turn, timer_turn, DrainsIn};
 ghost use Rattle.run_laws.specs.ValidRun.{IsValidWorld};
+ghost use Rattle.queue_rows.specs.World.{read_clock};
 ghost use Rattle.run_state.specs.Entries.{IsUntold};
 ghost use Rattle.aq_world.specs.Going.{GoesAs};
 ghost use Rattle.aq_world.specs.Sound.{IsSound};
 ghost use Rattle.aq_world.specs.Turning.{IsActor, IsBrokenOff, IsCalling, IsDrainable, IsOwed, IsPartDrained, IsPartOfStep, IsUnclosed, IsUndone};
-ghost use Rattle.aq_world.specs.Turning.{background_end, next_turned, session_end, turn_end};
+ghost use Rattle.aq_world.specs.Turning.{background_end, reads_clock, session_end, turn_end, turned};
 ghost use Rattle.aq_world.specs.declared.turn_end.TurnEnd.TheVariants.{Done};
 
-use crate::due_work::{begin, catch_up, read_next};
+use crate::due_work::{begin, catch_up};
 use crate::own_turn::own_turn;
 use crate::sending::propagate;
 use crate::turn_end::TurnEnd;
 use aq_disk::Disk;
 use durable_state::{Broken, DurableState};
+use run_state::RunState;
+
+/// The number of sessions' numbers: below it stand the sessions.
+const SESSIONS: u32 = 64;
 
 /// The number of the timer among the actors.
 const TIMER: u32 = 64;
@@ -27,7 +31,7 @@ const PROPAGATOR: u32 = 65;
 /// The number of the closing turn among the actors.
 const CLOSING: u32 = 66;
 
-/// A turn in which the session of that number is told the reply to its statement.
+/// A turn in which the session of that number is told the reply to its statement, whatever reading it might take.
 #[tactic(auto, using(crate::proofs::Turning::told_whole, crate::proofs::Turning::untold_front))]
 fn telling_turn<D: Disk>(
     state: &mut DurableState<D>,
@@ -35,11 +39,11 @@ fn telling_turn<D: Disk>(
     number: u32,
 ) -> Result<TurnEnd, Broken>
     requires { IsOwed state.old.world at number }
-    ensures ok { OnOk result (state.new.world ≡ next_session_turn at state.old.world) }
+    ensures ok { OnOk result ((reading : ℕ) → state.new.world ≡ session_turn reading at state.old.world) }
     ensures end { IfOk result (λ end. end ≡ Done) }
     ensures err { OnErr result (IsUntold at state.old.world state.new.world) }
-    ensures front { OnErr result
-        (IsFront state.new.world.entries (next_session_turn at state.old.world).entries) }
+    ensures front { OnErr result ((reading : ℕ)
+        → IsFront state.new.world.entries (session_turn reading at state.old.world).entries) }
     ensures disks { GoesAs D.seen D.is_image D.calls D.faults result state.old state.new }
 {
     state.tell(at, number)?;
@@ -48,38 +52,46 @@ fn telling_turn<D: Disk>(
 
 /// A turn in which the session of that number, which was told all and goes on, calls a statement, waits or ends.
 #[tactic(auto, using(crate::proofs::Turning::begun_front, crate::proofs::Turning::called_end, crate::proofs::Turning::called_whole, crate::proofs::Turning::read_front, crate::proofs::Turning::sound_at_call))]
-fn calling_turn<D: Disk>(state: &mut DurableState<D>, at: u32) -> Result<TurnEnd, Broken>
+fn calling_turn<D: Disk>(
+    state: &mut DurableState<D>,
+    at: u32,
+    reading: u64,
+) -> Result<TurnEnd, Broken>
     requires sound { IsSound state.old.world }
     requires readings { state.old.world.readings < 2 ^ 63 }
     requires calling { IsCalling state.old.world at }
-    ensures ok { OnOk result (state.new.world ≡ next_session_turn at state.old.world) }
+    ensures ok { OnOk result (state.new.world ≡ session_turn reading at state.old.world) }
     ensures end { IfOk result (λ end.
-        end ≡ session_end (next_reading state.old.world) at
+        end ≡ session_end reading at
         (slice_get state.old.world.sessions at) state.old.world) }
-    ensures err { OnErr result (IsUndone at (next_reading state.old.world) state.old.world state.new.world) }
+    ensures err { OnErr result (IsUndone at reading state.old.world state.new.world) }
     ensures front { OnErr result
-        (IsFront state.new.world.entries (next_session_turn at state.old.world).entries) }
+        (IsFront state.new.world.entries (session_turn reading at state.old.world).entries) }
     ensures disks { GoesAs D.seen D.is_image D.calls D.faults result state.old state.new }
 {
-    begin(state, at)?;
+    begin(state, at, reading)?;
     Ok(own_turn(state, at)?)
 }
 
-/// The turn of the session of that number. One whose last call is not yet told is told it; else it calls its next statement, waits with
-/// it, or ends where it has called all. At want of memory, or where a disk fails, the turn is broken off.
+/// The turn of the session of that number. One whose last call is not yet told is told it; else, with that reading, it calls its next
+/// statement, waits with it, or ends where it has called all. At want of memory, or where a disk fails, the turn is broken off.
 #[tactic(auto, using(crate::proofs::Turning::calling_broken, crate::proofs::Turning::calling_so, crate::proofs::Turning::none_end, crate::proofs::Turning::none_whole, crate::proofs::Turning::over_end, crate::proofs::Turning::over_whole, crate::proofs::Turning::owed_broken, crate::proofs::Turning::owed_so, crate::proofs::Turning::told_end))]
-fn session_turn<D: Disk>(state: &mut DurableState<D>, at: u32) -> Result<TurnEnd, Broken>
+fn session_turn<D: Disk>(
+    state: &mut DurableState<D>,
+    at: u32,
+    reading: u64,
+) -> Result<TurnEnd, Broken>
     requires sound { IsSound state.old.world }
     requires session { at < 64 }
     requires readings { state.old.world.readings < 2 ^ 63 }
-    ensures ok { OnOk result (state.new.world ≡ next_session_turn at state.old.world) }
+    ensures ok { OnOk result (state.new.world ≡ session_turn reading at state.old.world) }
     ensures end { IfOk result (λ end.
-        end ≡ session_end (next_reading state.old.world) at
+        end ≡ session_end reading at
         (slice_get state.old.world.sessions at) state.old.world) }
     ensures err { OnErr result
-        (IsBrokenOff at (next_reading state.old.world) state.old.world state.new.world) }
+        (IsBrokenOff at reading state.old.world state.new.world) }
     ensures front { OnErr result
-        (IsFront state.new.world.entries (next_session_turn at state.old.world).entries) }
+        (IsFront state.new.world.entries (session_turn reading at state.old.world).entries) }
     ensures disks { GoesAs D.seen D.is_image D.calls D.faults result state.old state.new }
 {
     let Some(session) = state.run().session(at) else {
@@ -91,26 +103,26 @@ fn session_turn<D: Disk>(state: &mut DurableState<D>, at: u32) -> Result<TurnEnd
     if !session.live {
         return Ok(TurnEnd::Ended);
     }
-    calling_turn(state, at)
+    calling_turn(state, at, reading)
 }
 
 /// A turn of the timer: it does what is due. With no session live it is its last, and takes no reading.
 #[tactic(auto, using(crate::proofs::Turning::over_ends, crate::proofs::Turning::timer_broken, crate::proofs::Turning::timer_ends, crate::proofs::Turning::timer_front, crate::proofs::Turning::timer_over, crate::proofs::Turning::timer_whole))]
-fn timer_turn<D: Disk>(state: &mut DurableState<D>) -> Result<TurnEnd, Broken>
+fn timer_turn<D: Disk>(state: &mut DurableState<D>, reading: u64) -> Result<TurnEnd, Broken>
     requires sound { IsSound state.old.world }
     requires readings { state.old.world.readings < 2 ^ 63 }
-    ensures ok { OnOk result (state.new.world ≡ next_timer_turn state.old.world) }
+    ensures ok { OnOk result (state.new.world ≡ timer_turn reading state.old.world) }
     ensures end { IfOk result (λ end.
-        end ≡ background_end (next_reading state.old.world) 64 state.old.world) }
+        end ≡ background_end reading 64 state.old.world) }
     ensures err { OnErr result
-        (IsBrokenOff 64 (next_reading state.old.world) state.old.world state.new.world) }
-    ensures front { OnErr result (IsFront state.new.world.entries (next_timer_turn state.old.world).entries) }
+        (IsBrokenOff 64 reading state.old.world state.new.world) }
+    ensures front { OnErr result (IsFront state.new.world.entries (timer_turn reading state.old.world).entries) }
     ensures disks { GoesAs D.seen D.is_image D.calls D.faults result state.old state.new }
 {
     if !state.run().any_live() {
         return Ok(TurnEnd::Ended);
     }
-    let was_due = begin(state, TIMER)?;
+    let was_due = begin(state, TIMER, reading)?;
     Ok(if was_due {
         TurnEnd::Done
     } else {
@@ -121,22 +133,22 @@ fn timer_turn<D: Disk>(state: &mut DurableState<D>) -> Result<TurnEnd, Broken>
 /// A turn of the propagator: it does what is due, and makes one step of propagation. With no session live it is its last, and takes no
 /// reading.
 #[tactic(auto, using(crate::proofs::Turning::over_ends, crate::proofs::Turning::propagator_broken, crate::proofs::Turning::propagator_broken_read, crate::proofs::Turning::propagator_ends, crate::proofs::Turning::propagator_front, crate::proofs::Turning::propagator_over, crate::proofs::Turning::propagator_read_front, crate::proofs::Turning::propagator_whole, crate::proofs::Turning::valid_begun))]
-fn propagator_turn<D: Disk>(state: &mut DurableState<D>) -> Result<TurnEnd, Broken>
+fn propagator_turn<D: Disk>(state: &mut DurableState<D>, reading: u64) -> Result<TurnEnd, Broken>
     requires sound { IsSound state.old.world }
     requires readings { state.old.world.readings < 2 ^ 63 }
-    ensures ok { OnOk result (state.new.world ≡ next_propagator_turn state.old.world) }
+    ensures ok { OnOk result (state.new.world ≡ propagator_turn reading state.old.world) }
     ensures end { IfOk result (λ end.
-        end ≡ background_end (next_reading state.old.world) 65 state.old.world) }
+        end ≡ background_end reading 65 state.old.world) }
     ensures err { OnErr result
-        (IsBrokenOff 65 (next_reading state.old.world) state.old.world state.new.world) }
+        (IsBrokenOff 65 reading state.old.world state.new.world) }
     ensures front { OnErr result
-        (IsFront state.new.world.entries (next_propagator_turn state.old.world).entries) }
+        (IsFront state.new.world.entries (propagator_turn reading state.old.world).entries) }
     ensures disks { GoesAs D.seen D.is_image D.calls D.faults result state.old state.new }
 {
     if !state.run().any_live() {
         return Ok(TurnEnd::Ended);
     }
-    let was_due = begin(state, PROPAGATOR)?;
+    let was_due = begin(state, PROPAGATOR, reading)?;
     let was_sent = propagate(state, PROPAGATOR)?;
     Ok(if was_due || was_sent {
         TurnEnd::Done
@@ -145,24 +157,42 @@ fn propagator_turn<D: Disk>(state: &mut DurableState<D>) -> Result<TurnEnd, Brok
     })
 }
 
-/// The turn of an actor: of the session of that number, of the timer or of the propagator. At want of memory it is broken off.
+/// Whether the turn of an actor takes a reading.
+pub fn reads_clock(state: &RunState, actor: u32) -> bool
+    ensures { result ≡ reads_clock actor state.now }
+{
+    if SESSIONS <= actor {
+        return state.any_live();
+    }
+    match state.session(actor) {
+        Some(session) => session.live && session.untold.is_none(),
+        None => false,
+    }
+}
+
+/// The turn of an actor: of the session of that number, of the timer or of the propagator, with that reading, if it takes one. At want of
+/// memory it is broken off.
 #[tactic(auto, using(crate::proofs::Running::is_propagator, crate::proofs::Running::propagator_ended, crate::proofs::Running::propagator_turned, crate::proofs::Running::session_ends, crate::proofs::Running::session_turned, crate::proofs::Running::timer_ended, crate::proofs::Running::timer_turned))]
-pub fn turn<D: Disk>(state: &mut DurableState<D>, actor: u32) -> Result<TurnEnd, Broken>
+pub fn turn<D: Disk>(
+    state: &mut DurableState<D>,
+    actor: u32,
+    reading: u64,
+) -> Result<TurnEnd, Broken>
     requires sound { IsSound state.old.world }
     requires actor { IsActor state.old.world actor }
     requires readings { state.old.world.readings < 2 ^ 63 }
-    ensures ok { OnOk result (state.new.world ≡ next_turned actor state.old.world) }
-    ensures end { IfOk result (λ end. end ≡ turn_end (next_reading state.old.world) actor state.old.world) }
+    ensures ok { OnOk result (state.new.world ≡ turned reading actor state.old.world) }
+    ensures end { IfOk result (λ end. end ≡ turn_end reading actor state.old.world) }
     ensures err { OnErr result
-        (IsBrokenOff actor (next_reading state.old.world) state.old.world state.new.world) }
+        (IsBrokenOff actor reading state.old.world state.new.world) }
     ensures front { OnErr result
-        (IsFront state.new.world.entries (next_turned actor state.old.world).entries) }
+        (IsFront state.new.world.entries (turned reading actor state.old.world).entries) }
     ensures disks { GoesAs D.seen D.is_image D.calls D.faults result state.old state.new }
 {
     match actor {
-        0..=63 => session_turn(state, actor),
-        TIMER => timer_turn(state),
-        _ => propagator_turn(state),
+        0..=63 => session_turn(state, actor, reading),
+        TIMER => timer_turn(state, reading),
+        _ => propagator_turn(state, reading),
     }
 }
 
@@ -203,19 +233,19 @@ fn drain<D: Disk>(state: &mut DurableState<D>) -> Result<(), Broken>
     }
 }
 
-/// The turn that follows when no session goes on any more: with one reading it drains, and then makes every commit durable.
+/// The turn that follows when no session goes on any more: with that reading it drains, and then makes every commit durable.
 #[tactic(auto, using(crate::proofs::Turning::closed_part, crate::proofs::Turning::closed_so, crate::proofs::Turning::drainable_behind, crate::proofs::Turning::part_behind, crate::proofs::Turning::unclosed_at_flush, crate::proofs::Turning::unclosed_behind))]
-pub fn closing_turn<D: Disk>(state: &mut DurableState<D>) -> Result<TurnEnd, Broken>
-    requires drainable { IsDrainable (at_closing state.old.world) }
+pub fn closing_turn<D: Disk>(state: &mut DurableState<D>, reading: u64) -> Result<TurnEnd, Broken>
+    requires drainable { IsDrainable (read_clock reading state.old.world) }
     requires readings { state.old.world.readings < 2 ^ 63 }
-    ensures ok { OnOk result ((steps : ℕ) × DrainsIn (at_closing state.old.world) steps
-        × (state.new.world ≡ next_closing_turn steps state.old.world)) }
+    ensures ok { OnOk result ((steps : ℕ) × DrainsIn (read_clock reading state.old.world) steps
+        × (state.new.world ≡ closing_turn reading steps state.old.world)) }
     ensures end { IfOk result (λ end. end ≡ Done) }
-    ensures err { OnErr result (IsPartDrained (at_closing state.old.world) state.new.world) }
-    ensures front { OnErr result (IsUnclosed state.old.world state.new.world) }
+    ensures err { OnErr result (IsPartDrained (read_clock reading state.old.world) state.new.world) }
+    ensures front { OnErr result (IsUnclosed reading state.old.world state.new.world) }
     ensures disks { GoesAs D.seen D.is_image D.calls D.faults result state.old state.new }
 {
-    read_next(state);
+    state.read_clock(reading);
     drain(state)?;
     state.flush(CLOSING)?;
     Ok(TurnEnd::Done)

@@ -1,52 +1,66 @@
 // The world of a run, and the turns of its actors.
-ghost use Rattle.std.specs.Prelude.{◌≡◌, ◌<◌, ◌≤◌, ◌^◌, ◌⊎◌, ℕ, [], MatchResult, IfOk, IfErr, map, length, slice_get};
-ghost use Rattle.queue_rows.specs.Order.{IsFront};
+ghost use Rattle.std.specs.Prelude.{◌≡◌, ◌<◌, ◌≤◌, ◌^◌, ◌⊎◌, [], true, false, Some, MatchResult, IfOk, IfErr, map, length, slice_get};
+ghost use Rattle.std.specs.Option.{ForSome};
+ghost use Rattle.aq_clock.specs.Clock.{HasReading, TellsOn, step_reading};
 ghost use Rattle.queue_rows.specs.World.{uncounted, database_at, opened};
 ghost use Rattle.database_recovery.specs.Sound.{IsSound};
 ghost use Rattle.world_laws.specs.ValidWorld.{AreScripts};
-ghost use Rattle.queue_rows.specs.Serial.{at_closing, next_closing_turn};
-ghost use Rattle.queue_rows.specs.Turns.{any_live, next_reading, DrainsIn};
+ghost use Rattle.queue_rows.specs.Turns.{any_live};
 ghost use Rattle.run_state.specs.Entries.{BeginsAs};
 ghost use Rattle.durable_state.specs.Going.{Goes};
 ghost use Rattle.durable_state.specs.Held.{HasFailed};
 ghost use Rattle.durable_state.specs.Survival.{Survives};
+ghost use Rattle.aq_world.specs.Clocked.{IsClocked, IsClosing, IsTurn};
 ghost use Rattle.aq_world.specs.Mounting.{HasMountCause, KeepsRecovered, RecoversTo};
-ghost use Rattle.aq_world.specs.Sound.{IsRunning};
-ghost use Rattle.aq_world.specs.Turning.{IsActor, IsBrokenOff, IsOfRun, IsUnclosed, IsWhole, broken_end, is_owed, next_turned, turn_end};
+ghost use Rattle.aq_world.specs.Turning.{IsActor, broken_end, is_owed};
 ghost use Rattle.aq_world.specs.declared.turn_end.TurnEnd.TheVariants.{Done, Halted, Memory};
 
-use crate::mount::{MountCause, MountFault, mount_logs};
+use crate::mount::{MountFault, open};
 use crate::turn_end::TurnEnd;
-use crate::turns::{closing_turn, turn};
+use crate::turns::{closing_turn, reads_clock, turn};
 use aq_base::DbId;
+use aq_clock::{Clock, StepClock};
 use aq_disk::Disk;
-use durable_state::{Broken, DurableState, Finished, Unmounted};
+use durable_state::{Broken, DurableState};
 use payload_records::List;
-use queue_rows::{SessionScript, Tables};
+use queue_rows::{History, SessionScript, Tables};
 use std::alloc::Global;
 use std::marker::Model;
 
-/// The world of a run over its two disks: the two databases, the sessions with what they hold, the slot that is being sent, the moment, and
-/// the history so far. Contracts see the world of the definitions beside the journals; legal steps led to it, by the readings of a clock that
-/// counts seconds.
+/// The world of a run over its two disks: the two databases, the sessions with what they hold, the slot that is being sent, the moment, the
+/// history so far, and the clock. Contracts see the world of the definitions beside the journals and the clock; legal steps led to it, by
+/// the readings that the clock gave.
 #[derive(Drop)]
-pub struct World<D: Disk> {
+pub struct World<D: Disk, C: Clock> {
     state: DurableState<D>,
+    clock: C,
 }
 
-impl<D: Disk> Model for World<D> {
+impl<D: Disk, C: Clock> Model for World<D, C> {
     ghost use Rattle.std.specs.Coded.{codes};
     ghost use Rattle.rule_conditions.specs.contracts.condition.Cond as cond;
-    ghost use Rattle.durable_state.specs.Held.{Held};
-    ghost use Rattle.aq_world.specs.Sound.{IsRunning};
+    ghost use Rattle.aq_world.specs.Clocked.{Clocked, IsClocked};
 
-    ghost Value = { Held D };
+    ghost Value = { Clocked D C };
 
-    ghost coded = { Prim.hlevel (codes, cond.the_row.coded, D.code) };
+    ghost coded = { Prim.hlevel (codes, cond.the_row.coded, D.code, C.code) };
 
-    ghost view = { λ w. w.state };
+    ghost view = { λ w. record { held = w.state; clock = w.clock } };
 
-    ghost invariant = { λ w. IsRunning w.state.world };
+    ghost invariant = { λ w. IsClocked C.given w.clock w.state.world };
+}
+
+/// What a run leaves.
+#[derive(Drop)]
+pub struct Finished<D, C> {
+    /// Its history.
+    pub history: History,
+    /// Home's disk.
+    pub home: D,
+    /// Away's disk.
+    pub away: D,
+    /// The clock.
+    pub clock: C,
 }
 
 fn end_of(turn: Result<TurnEnd, Broken>) -> TurnEnd
@@ -59,97 +73,102 @@ fn end_of(turn: Result<TurnEnd, Broken>) -> TurnEnd
     }
 }
 
-impl<D: Disk> World<D> {
-    /// The world of these scripts' sessions, over the databases that are recovered of two disks. A disk that has none yet has one then. Where
-    /// a database is not mounted both disks are given back, and a crash leaves of them what it left.
+/// Reads the clock where it is to be read. Where it is not it is left alone, and the answer means nothing.
+fn read_if<C: Clock>(clock: &mut C, is_read: bool) -> u64
+    ensures read { is_read ≡ true → ForSome (C.given clock.new) (HasReading (C.given clock.old) result) }
+    ensures tells { is_read ≡ true → ForSome (C.given clock.old) (TellsOn (C.given clock.new)) }
+    ensures planned { is_read ≡ true → C.plan clock.new ≡ C.plan clock.old }
+    ensures unread { is_read ≡ false → clock.new ≡ clock.old }
+{
+    if is_read { clock.now() } else { 0 }
+}
+
+impl<D: Disk, C: Clock> World<D, C> {
+    /// The world of these scripts' sessions, over the databases that are recovered of two disks, with a clock of which nothing was read. A
+    /// disk that has none yet has one then. Where a database is not mounted both disks and the clock are given back, and a crash leaves of
+    /// the disks what it left.
     pub fn mount(
         alloc: Global,
         home: D,
         away: D,
+        clock: C,
         scripts: List<SessionScript>,
-    ) -> Result<World<D>, MountFault<D>>
-        requires { AreScripts scripts }
+    ) -> Result<World<D, C>, MountFault<D, C>>
+        requires scripts { AreScripts scripts }
+        requires fresh { ForSome (C.given clock) (λ readings. readings ≡ []) }
         ensures opens { IfOk result (λ w.
-            w.world ≡ opened w.world.home.opening w.world.away.opening scripts) }
-        ensures home { IfOk result (λ w. RecoversTo D.seen home w.world.home.opening) }
-        ensures away { IfOk result (λ w. RecoversTo D.seen away w.world.away.opening) }
-        ensures sound { IfOk result (λ w. IsSound w.world.home.opening × IsSound w.world.away.opening) }
-        ensures entries { IfOk result (λ w. w.entries ≡ []) }
-        ensures begun { IfOk result
-            (Survives D.seen D.is_image D.calls D.faults (record { home = home; away = away })) }
-        ensures unfailed { IfOk result (λ w. HasFailed w → ⊥) }
+            w.held.world ≡ opened w.held.world.home.opening w.held.world.away.opening scripts) }
+        ensures home { IfOk result (λ w. RecoversTo D.seen home w.held.world.home.opening) }
+        ensures away { IfOk result (λ w. RecoversTo D.seen away w.held.world.away.opening) }
+        ensures sound { IfOk result (λ w. IsSound w.held.world.home.opening × IsSound w.held.world.away.opening) }
+        ensures entries { IfOk result (λ w. w.held.entries ≡ []) }
+        ensures begun { IfOk result (λ w.
+            Survives D.seen D.is_image D.calls D.faults (record { home = home; away = away }) w.held) }
+        ensures unfailed { IfOk result (λ w. HasFailed w.held → ⊥) }
         ensures cause { IfErr result (λ e. HasMountCause D.seen D.faults e.cause home away e.home e.away) }
         ensures home_keeps { IfErr result (λ e. KeepsRecovered D.seen D.is_image D.calls home e.home) }
         ensures away_keeps { IfErr result (λ e. KeepsRecovered D.seen D.is_image D.calls away e.away) }
+        ensures clock { IfOk result (λ w. w.clock ≡ clock) }
+        ensures unread { IfErr result (λ e. e.clock ≡ clock) }
     {
-        let (home, away) = mount_logs(alloc, home, away)?;
-        match DurableState::mount(alloc, scripts, home, away) {
-            Ok(state) => Ok(World { state }),
-            Err(Unmounted { home, away }) => Err(MountFault {
-                cause: MountCause::Memory,
-                home,
-                away,
-            }),
+        match open(alloc, home, away, scripts) {
+            Ok(state) => Ok(World { state, clock }),
+            Err(unopened) => Err(unopened.with_clock(clock)),
         }
     }
 
     /// The turn of an actor: of the session of that number, of the timer (64) or of the propagator (65). Each takes the clock and does
-    /// what is due first. A session whose last call is not yet told is told it instead. At want of memory, or where a disk fails, the turn is
-    /// broken off.
+    /// what is due first. A session whose last call is not yet told is told it instead, and takes no reading; neither does an actor that
+    /// has ended. At want of memory, or where a disk fails, the turn is broken off.
     pub fn turn(&mut self, actor: u32) -> TurnEnd
-        requires actor { IsActor self.old.world actor }
-        requires readings { self.old.world.readings < 2 ^ 63 }
-        ensures world { IsWhole result → self.new.world ≡ next_turned actor self.old.world }
-        ensures end { IsWhole result → result ≡ turn_end (next_reading self.old.world) actor self.old.world }
-        ensures memory { (IsWhole result → ⊥) → ((result ≡ Memory) ⊎ (result ≡ Halted))
-            × IsBrokenOff actor (next_reading self.old.world) self.old.world self.new.world }
-        ensures front { (IsWhole result → ⊥)
-            → IsFront self.new.world.entries (next_turned actor self.old.world).entries }
+        requires actor { IsActor self.old.held.world actor }
+        requires readings { self.old.held.world.readings < 2 ^ 63 }
+        ensures turn { IsTurn C.given C.plan actor result self.old self.new }
 
         // The disks go on so that a crash leaves what it is to leave, and a failure is told where it stands in the way.
-        ensures disks { Goes D.seen D.is_image D.calls D.faults self.old self.new }
-        ensures halted { result ≡ Halted → HasFailed self.new }
-        ensures fine { (result ≡ Halted → ⊥) → HasFailed self.new → HasFailed self.old }
+        ensures disks { Goes D.seen D.is_image D.calls D.faults self.old.held self.new.held }
+        ensures halted { result ≡ Halted → HasFailed self.new.held }
+        ensures fine { (result ≡ Halted → ⊥) → HasFailed self.new.held → HasFailed self.old.held }
     {
-        end_of(turn(&mut self.state, actor))
+        let is_read = reads_clock(self.state.run(), actor);
+        let reading = read_if(&mut self.clock, is_read);
+        end_of(turn(&mut self.state, actor, reading))
     }
 
-    /// The turn that follows when no session goes on any more: what is due is done and what can be sent is, until there is nothing more,
-    /// and then every commit is durable. At want of memory, or where a disk fails, it is broken off.
+    /// The turn that follows when no session goes on any more: with one reading, what is due is done and what can be sent is, until there
+    /// is nothing more, and then every commit is durable. At want of memory, or where a disk fails, it is broken off.
     pub fn closing(&mut self) -> TurnEnd
-        requires readings { self.old.world.readings < 2 ^ 63 }
+        requires readings { self.old.held.world.readings < 2 ^ 63 }
         ensures known { (result ≡ Done) ⊎ ((result ≡ Memory) ⊎ (result ≡ Halted)) }
-        ensures world { result ≡ Done → (steps : ℕ) × DrainsIn (at_closing self.old.world) steps
-            × (self.new.world ≡ next_closing_turn steps self.old.world) }
-        ensures memory { (IsWhole result → ⊥) → IsUnclosed self.old.world self.new.world }
-        ensures run { (IsWhole result → ⊥) → IsOfRun self.old.world self.new.world }
+        ensures turn { IsClosing C.given C.plan result self.old self.new }
 
         // The disks go on so that a crash leaves what it is to leave, and a failure is told where it stands in the way.
-        ensures disks { Goes D.seen D.is_image D.calls D.faults self.old self.new }
-        ensures halted { result ≡ Halted → HasFailed self.new }
-        ensures fine { (result ≡ Halted → ⊥) → HasFailed self.new → HasFailed self.old }
+        ensures disks { Goes D.seen D.is_image D.calls D.faults self.old.held self.new.held }
+        ensures halted { result ≡ Halted → HasFailed self.new.held }
+        ensures fine { (result ≡ Halted → ⊥) → HasFailed self.new.held → HasFailed self.old.held }
     {
-        end_of(closing_turn(&mut self.state))
+        let reading = self.clock.now();
+        end_of(closing_turn(&mut self.state, reading))
     }
 
     /// How many sessions there are.
     pub fn session_count(&self) -> u32
-        ensures count { result ≡ length self.now.world.sessions }
-        ensures most { length self.now.world.sessions ≤ 64 }
+        ensures count { result ≡ length self.now.held.world.sessions }
+        ensures most { length self.now.held.world.sessions ≤ 64 }
     {
         self.state.run().session_count() as u32
     }
 
     /// Whether a session goes on.
     pub fn any_live(&self) -> bool
-        ensures { result ≡ any_live self.now.world }
+        ensures { result ≡ any_live self.now.held.world }
     {
         self.state.run().any_live()
     }
 
     /// Whether the session of that number is to be told the reply to its last call.
     pub fn is_owed(&self, session: u32) -> bool
-        ensures { result ≡ is_owed (slice_get self.now.world.sessions session) }
+        ensures { result ≡ is_owed (slice_get self.now.held.world.sessions session) }
     {
         match self.state.run().session(session) {
             Some(session) => session.untold.is_some(),
@@ -159,34 +178,82 @@ impl<D: Disk> World<D> {
 
     /// How many readings of the clock were taken.
     pub fn readings(&self) -> u64
-        ensures { result ≡ self.now.world.readings }
+        ensures { result ≡ self.now.held.world.readings }
     {
         self.state.run().readings()
     }
 
     /// The tables of that database.
     pub fn tables(&self, db: DbId) -> &Tables
-        ensures { result.now ≡ (database_at db self.now.world).tables }
+        ensures { result.now ≡ (database_at db self.now.held.world).tables }
     {
         self.state.run().database(db).store().tables()
     }
 
     /// The sessions and what they ask.
     pub fn scripts(&self) -> &List<SessionScript>
-        ensures { result.now ≡ self.now.world.scripts }
+        ensures { result.now ≡ self.now.held.world.scripts }
     {
         self.state.run().scripts()
     }
 
-    /// The history of the run, and both disks.
-    pub fn finish(self) -> Finished<D>
-        ensures entries { result.history.entries ≡ self.entries }
-        ensures uncounted { map uncounted result.history.entries ≡ self.world.entries }
-        ensures begins { BeginsAs self.world result.history }
-        ensures running { IsRunning self.world }
-        ensures home { result.home ≡ self.home.disk }
-        ensures away { result.away ≡ self.away.disk }
+    /// The history of the run, both disks and the clock.
+    pub fn finish(self) -> Finished<D, C>
+        ensures entries { result.history.entries ≡ self.held.entries }
+        ensures uncounted { map uncounted result.history.entries ≡ self.held.world.entries }
+        ensures begins { BeginsAs self.held.world result.history }
+        ensures running { IsClocked C.given self.clock self.held.world }
+        ensures home { result.home ≡ self.held.home.disk }
+        ensures away { result.away ≡ self.held.away.disk }
+        ensures clock { result.clock ≡ self.clock }
     {
-        self.state.finish()
+        let World { state, clock } = self;
+        let durable_state::Finished {
+            history,
+            home,
+            away,
+        } = state.finish();
+        Finished {
+            history,
+            home,
+            away,
+            clock,
+        }
+    }
+}
+
+impl<D: Disk> World<D, StepClock> {
+    /// The world of these scripts' sessions, as `mount` makes it, with the clock of the serial schedule: it counts seconds from the opening
+    /// moment, which the mounting finds.
+    pub fn mount_serial(
+        alloc: Global,
+        home: D,
+        away: D,
+        scripts: List<SessionScript>,
+    ) -> Result<World<D, StepClock>, MountFault<D, StepClock>>
+        requires { AreScripts scripts }
+        ensures opens { IfOk result (λ w.
+            w.held.world ≡ opened w.held.world.home.opening w.held.world.away.opening scripts) }
+        ensures home { IfOk result (λ w. RecoversTo D.seen home w.held.world.home.opening) }
+        ensures away { IfOk result (λ w. RecoversTo D.seen away w.held.world.away.opening) }
+        ensures sound { IfOk result (λ w. IsSound w.held.world.home.opening × IsSound w.held.world.away.opening) }
+        ensures entries { IfOk result (λ w. w.held.entries ≡ []) }
+        ensures begun { IfOk result (λ w.
+            Survives D.seen D.is_image D.calls D.faults (record { home = home; away = away }) w.held) }
+        ensures unfailed { IfOk result (λ w. HasFailed w.held → ⊥) }
+        ensures cause { IfErr result (λ e. HasMountCause D.seen D.faults e.cause home away e.home e.away) }
+        ensures home_keeps { IfErr result (λ e. KeepsRecovered D.seen D.is_image D.calls home e.home) }
+        ensures away_keeps { IfErr result (λ e. KeepsRecovered D.seen D.is_image D.calls away e.away) }
+        ensures plan { IfOk result (λ w.
+            ⟦<StepClock as Clock>⟧.plan w.clock ≡ Some (step_reading w.held.world.opening)) }
+        ensures given { IfOk result (λ w. ⟦<StepClock as Clock>⟧.given w.clock ≡ Some []) }
+    {
+        match open(alloc, home, away, scripts) {
+            Ok(state) => {
+                let clock = StepClock::from(state.run().opening());
+                Ok(World { state, clock })
+            }
+            Err(unopened) => Err(unopened.with_clock(StepClock::from(0))),
+        }
     }
 }

@@ -1,7 +1,8 @@
-//! The program: it makes the words, the input, the output and the two disks, calls the server, and ends with its status.
+//! The program: it makes the words, the input, the output, the two disks and the clock, calls the server, and ends with its status.
 #![tactic(auto)]
 
 use aq_base::{ReaderSource, Words, WriterSink};
+use aq_clock::SystemClock;
 use aq_disk::FileDisk;
 use aq_run::serve;
 use std::alloc::{AllocError, Global};
@@ -67,8 +68,12 @@ fn main(rt: HostRuntime) -> ExitCode {
     let Ok(away) = disk(&rt, AWAY_FILE) else {
         return ExitCode::from(4);
     };
+    let Ok(machine) = rt.clone() else {
+        return ExitCode::from(4);
+    };
     let mut input = ReaderSource::of(rt.reader());
     let mut out = WriterSink::of(io::writer(&rt));
-    let outcome = serve(alloc, &words, &mut input, &mut out, home, away);
+    let clock = SystemClock::new(machine);
+    let outcome = serve(alloc, &words, &mut input, &mut out, home, away, clock);
     ExitCode::from(outcome.status)
 }

@@ -1,5 +1,6 @@
 // Calls of the server over devices in memory.
 use aq_base::{MemorySink, MemorySource, Words};
+use aq_clock::StepClock;
 use aq_disk::MemoryDisk;
 use aq_run::{Outcome, serve};
 use std::alloc::{AllocError, Global};
@@ -26,7 +27,7 @@ fn words_of(alloc: Global, list: &[&str]) -> Result<Words, AllocError> {
 /// How a call ended, and what it wrote.
 #[derive(Drop)]
 pub struct Served {
-    pub outcome: Outcome<MemoryDisk>,
+    pub outcome: Outcome<MemoryDisk, StepClock>,
     pub sink: MemorySink,
 }
 
@@ -48,7 +49,8 @@ pub fn call_over(
     let bytes = input.as_bytes().to_vec(alloc)?;
     let mut source = MemorySource::of(bytes, Vec::new(alloc));
     let mut sink = MemorySink::of(alloc, Vec::new(alloc), None);
-    let outcome = serve(alloc, &words, &mut source, &mut sink, home, away);
+    let clock = StepClock::from(0);
+    let outcome = serve(alloc, &words, &mut source, &mut sink, home, away, clock);
     Ok(Served { outcome, sink })
 }
 
@@ -62,5 +64,6 @@ pub fn status_by(
     let words = words_of(alloc, words)?;
     let home = disk(alloc, b"", &[])?;
     let away = disk(alloc, b"", &[])?;
-    Ok(serve(alloc, &words, source, sink, home, away).status)
+    let clock = StepClock::from(0);
+    Ok(serve(alloc, &words, source, sink, home, away, clock).status)
 }

@@ -6,7 +6,7 @@ use Rattle.aq_run.proofs.rounds.session_turns.Given as goal
 
 abbrev pub invariant-loop-session : goal.invariant-loop-session
 invariant-loop-session g l = record {
-  world : l.world.world ≡ each next_session_turn l.session l.fn.world.world;
-  passes : Passes g.D.Disk.seen g.D.Disk.is_image g.D.Disk.calls g.D.Disk.faults l.fn.world l.world;
-  fine : HasFailed l.world → HasFailed l.fn.world;
+  world : l.world.held.world ≡ each next_session_turn l.session l.fn.world.held.world;
+  passes : Passes g.D.Disk.seen g.D.Disk.is_image g.D.Disk.calls g.D.Disk.faults g.C.Clock.given g.C.Clock.plan l.fn.world l.world;
+  fine : HasFailed l.world.held → HasFailed l.fn.world.held;
 }

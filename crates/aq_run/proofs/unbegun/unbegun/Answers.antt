@@ -11,5 +11,5 @@ returns-clause-holds g c = subst HoldsOf (sym c.empty_history.ensures) (c.legal_
 pub returns-clause-disks : goal.returns-clause-disks
 returns-clause-disks g c =
     leaves_uncalled g.D.Disk.seen g.D.Disk.is_image g.D.Disk.calls g.D.Disk.faults c.args.home c.args.away
-    (record { status = c.args.status; history = c.empty_history.result; home = c.args.home; away = c.args.away })
+    (record { status = c.args.status; history = c.empty_history.result; home = c.args.home; away = c.args.away; clock = c.args.clock })
     c.requires.some c.requires.few c.empty_history.ensures refl refl

@@ -17,6 +17,6 @@ pub returns-clause-disks : goal.returns-clause-disks
 returns-clause-disks g c = λ home away u.
     let f = c.args.fault in
     leaves_unmounted g.D.Disk.seen g.D.Disk.is_image g.D.Disk.calls g.D.Disk.faults home away f
-    (record { status = c.tell_cause-status.result; history = c.empty_history.result; home = f.home; away = f.away })
+    (record { status = c.tell_cause-status.result; history = c.empty_history.result; home = f.home; away = f.away; clock = c.args.clock })
     u c.tell_cause-status.ensures.known c.tell_cause-status.ensures.fault g.O.Sink.taken g.O.Sink.faults c.args.out.now c.tell_cause-status.new.out c.tell_cause-status.ensures.damaged
     c.empty_history.ensures refl refl

@@ -6,10 +6,10 @@ use Rattle.aq_world.proofs.turns.propagator_turn.Goals as goal
 
 pub returns-in_err-was_due-clause-front : goal.returns-in_err-was_due-clause-front
 returns-in_err-was_due-clause-front g c =
-    at_err c.from_residual.result (propagator_read_front c.args.state.now.world c.begin.new.state.world (ap any_live (sym c.run.ensures) ∙ sym c.any_live.ensures ∙ c.if-not-any_live.false) c.in_err-was_due.ensures.err)
+    at_err c.from_residual.result (propagator_read_front c.args.reading c.args.state.now.world c.begin.new.state.world (ap any_live (sym c.run.ensures) ∙ sym c.any_live.ensures ∙ c.if-not-any_live.false) c.in_err-was_due.ensures.err)
 
 pub propagate-requires : goal.propagate-requires
-propagate-requires g c = valid_begun c.args.state.now.world c.begin.new.state.world c.in_ok-was_due.ensures.ok c.requires.sound
+propagate-requires g c = valid_begun c.args.reading c.args.state.now.world c.begin.new.state.world c.in_ok-was_due.ensures.ok c.requires.sound
 
 pub returns-then-not-any_live-clause-disks : goal.returns-then-not-any_live-clause-disks
 returns-then-not-any_live-clause-disks g c = as_ok _ _ _ (quiet_same _)

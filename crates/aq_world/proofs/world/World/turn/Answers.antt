@@ -1,47 +1,48 @@
-use Rattle.std.proofs.Common.{◌≡◌, ◌⊎◌, sym, ap, subst, ◌∙◌}
-use Rattle.queue_rows.specs.Order.{IsFront}
-use Rattle.queue_rows.specs.Turns.{next_reading}
+use Rattle.std.proofs.Common.{◌≡◌, ◌<◌, ◌^◌, sym, ap, subst, ◌∙◌}
 use Rattle.durable_state.specs.Going.{Goes}
 use Rattle.durable_state.specs.Held.{HasFailed}
-use Rattle.aq_world.specs.Turning.{IsActor, IsBrokenOff, next_turned, turn_end}
-use Rattle.aq_world.specs.declared.turn_end.TurnEnd.TheVariants.{Memory, Halted}
-use Rattle.aq_world.proofs.Running.{turn_leaves, turned_world, turned_end, turned_broken, turn_halted, turn_fine, if_turned}
+use Rattle.aq_world.specs.Clocked.{IsTurn}
+use Rattle.aq_world.specs.Turning.{IsActor, reads_clock, turn_end}
+use Rattle.aq_world.proofs.Running.{turn_leaves, turned_world, turned_end, turned_broken, turn_halted, turn_fine, if_turned, reads_if, takes_reading, told_count}
 use Rattle.aq_world.proofs.world.World.turn.Goals as goal
 
 pub turn-requires-clause-sound : goal.turn-requires-clause-sound
-turn-requires-clause-sound g c = c.self.invariant.sound
+turn-requires-clause-sound g c = c.self.invariant.running.sound
 
 pub invariant_of-self : goal.invariant_of-self
 invariant_of-self g c =
-    turn_leaves c.self.inside.state.world c.self.invariant c.turn.new.state.world c.args.actor c.turn.result (subst (λ v. IsActor v.world c.args.actor) (sym c.self.view_is) c.requires.actor) c.turn.ensures.ok c.turn.ensures.err
-
-pub returns-clause-world : goal.returns-clause-world
-returns-clause-world g c = λ whole. turned_world c.turn.result c.end_of.result c.end_of.ensures c.turn.ensures.ok whole ∙ ap (λ v. next_turned c.args.actor v.world) c.self.view_is
-
-pub returns-clause-end : goal.returns-clause-end
-returns-clause-end g c = λ whole.
+    let i = c.self.invariant in
     let w = c.self.inside.state.world in
-    turned_end c.turn.result c.end_of.result (turn_end (next_reading w) c.args.actor w) c.end_of.ensures c.turn.ensures.end whole ∙ ap (λ v. turn_end (next_reading v.world) c.args.actor v.world) c.self.view_is
+    turn_leaves i.readings w i.running c.read_if-reading.result g.C.Clock.given c.self.inside.clock c.read_if-reading.new.clock i.told c.turn.new.state.world c.args.actor c.reads_clock-is_read.result c.turn.result
+    (c.reads_clock-is_read.ensures ∙ ap (reads_clock c.args.actor) c.run.ensures) c.read_if-reading.ensures.read c.read_if-reading.ensures.unread
+    (subst (λ v. IsActor v.held.world c.args.actor) (sym c.self.view_is) c.requires.actor) c.turn.ensures.ok c.turn.ensures.err
 
-pub returns-clause-memory : goal.returns-clause-memory
-returns-clause-memory g c = λ broken.
+pub returns-clause-turn : goal.returns-clause-turn
+returns-clause-turn g c =
+    let i = c.self.invariant in
     let w = c.self.inside.state.world in
-    subst (λ v. ((c.end_of.result ≡ Memory) ⊎ (c.end_of.result ≡ Halted)) × IsBrokenOff c.args.actor (next_reading v.world) v.world c.turn.new.state.world) c.self.view_is
-    (turned_broken c.turn.result c.end_of.result (next_reading w) c.args.actor w c.end_of.ensures c.turn.ensures.end c.turn.ensures.err broken)
-
-pub returns-clause-front : goal.returns-clause-front
-returns-clause-front g c = λ broken.
-    let w = c.self.inside.state.world in
-    subst (λ v. IsFront c.turn.new.state.world.entries (next_turned c.args.actor v.world).entries) c.self.view_is
-    (turned_broken c.turn.result c.end_of.result (next_reading w) c.args.actor w c.end_of.ensures c.turn.ensures.end c.turn.ensures.front broken).1
+    let reading = c.read_if-reading.result in
+    subst (λ v. IsTurn g.C.Clock.given g.C.Clock.plan c.args.actor c.end_of.result v (record { held = c.turn.new.state; clock = c.read_if-reading.new.clock })) c.self.view_is
+    (record {
+      reading = reading;
+      reads = reads_if g.C.Clock.given g.C.Clock.plan (reads_clock c.args.actor w) c.reads_clock-is_read.result w.readings reading c.self.inside.clock c.read_if-reading.new.clock (c.reads_clock-is_read.ensures ∙ ap (reads_clock c.args.actor) c.run.ensures)
+          (λ yes. takes_reading g.C.Clock.given g.C.Clock.plan g.met.C.Clock.as_planned w.readings reading c.self.inside.clock c.read_if-reading.new.clock
+          (subst (λ v. v.held.world.readings < 2 ^ 63) (sym c.self.view_is) c.requires.readings) (told_count i.readings w (g.C.Clock.given c.self.inside.clock) i.running i.told)
+          (c.read_if-reading.ensures.read yes) (c.read_if-reading.ensures.tells yes) (c.read_if-reading.ensures.planned yes))
+          c.read_if-reading.ensures.unread;
+      world = λ whole. turned_world c.turn.result c.end_of.result c.end_of.ensures c.turn.ensures.ok whole;
+      end_is = λ whole. turned_end c.turn.result c.end_of.result (turn_end reading c.args.actor w) c.end_of.ensures c.turn.ensures.end whole;
+      why = λ broken. (turned_broken c.turn.result c.end_of.result reading c.args.actor w c.end_of.ensures c.turn.ensures.end c.turn.ensures.err broken).0;
+      broken = λ broken. (turned_broken c.turn.result c.end_of.result reading c.args.actor w c.end_of.ensures c.turn.ensures.end c.turn.ensures.err broken).1;
+      front = λ broken. (turned_broken c.turn.result c.end_of.result reading c.args.actor w c.end_of.ensures c.turn.ensures.end c.turn.ensures.front broken).1;
+    })
 
 pub returns-clause-disks : goal.returns-clause-disks
-returns-clause-disks g c = subst (λ v. Goes g.D.Disk.seen g.D.Disk.is_image g.D.Disk.calls g.D.Disk.faults v c.turn.new.state) c.self.view_is c.turn.ensures.disks.goes
+returns-clause-disks g c = subst (λ v. Goes g.D.Disk.seen g.D.Disk.is_image g.D.Disk.calls g.D.Disk.faults v.held c.turn.new.state) c.self.view_is c.turn.ensures.disks.goes
 
 pub returns-clause-halted : goal.returns-clause-halted
 returns-clause-halted g c = λ halted.
-    let w = c.self.inside.state.world in
-    turn_halted c.turn.result c.end_of.result c.self.inside.state c.turn.new.state c.end_of.ensures (if_turned c.turn.result (next_reading w) c.args.actor w c.turn.ensures.end) c.turn.ensures.disks halted
+    turn_halted c.turn.result c.end_of.result c.self.inside.state c.turn.new.state c.end_of.ensures (if_turned c.turn.result c.read_if-reading.result c.args.actor c.self.inside.state.world c.turn.ensures.end) c.turn.ensures.disks halted
 
 pub returns-clause-fine : goal.returns-clause-fine
-returns-clause-fine g c = λ other failed. subst (λ v. HasFailed v) c.self.view_is (turn_fine c.turn.result c.end_of.result c.self.inside.state c.turn.new.state c.end_of.ensures c.turn.ensures.disks other failed)
+returns-clause-fine g c = λ other failed. subst (λ v. HasFailed v.held) c.self.view_is (turn_fine c.turn.result c.end_of.result c.self.inside.state c.turn.new.state c.end_of.ensures c.turn.ensures.disks other failed)
