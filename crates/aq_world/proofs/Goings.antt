@@ -1,5 +1,5 @@
 -- What parts of a turn leave of the disks, put together.
-use Rattle.std.proofs.Common.{◌≡◌, ℕ, List, Option, Result}
+use Rattle.std.proofs.Common.{◌≡◌, ℕ, List, Option, Result, ap}
 use Rattle.std.specs.Prelude.{Ok, Err, IsErrAnd}
 use Rattle.durable_state.specs.Going.{Goes, goes_same, goes_on}
 use Rattle.durable_state.specs.Held.{Held, HasFailed}
@@ -49,3 +49,8 @@ module _ {D : Type 0} {seen : D → Option (List ℕ)} {images : D → ℕ → L
     halted = λ h. let same : before ≡ Err Halted = cc in step.halted same;
     fine = λ other failed. step.fine (λ h. other (cc)) failed;
   }
+
+  -- a call on a disk failed, which is told
+  pub as_failed : {T : Type 0} (r : Result T Broken) (old new : Held D) → IsErrAnd r (λ e. e ≡ Halted) → Goes seen images calls faults old new → HasFailed new → GoesAs seen images calls faults r old new
+  as_failed (Ok x) old new none goes failed = absurd none
+  as_failed (Err e) old new is goes failed = record { goes = goes; halted = λ _. failed; fine = λ other _. absurd (other (ap Err is)) }

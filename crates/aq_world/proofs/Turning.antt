@@ -1,6 +1,6 @@
 -- What turns come to.
 use Rattle.std.proofs.Common.{◌≡◌, ◌<◌, ◌-◌, ◌^◌, inl, inr, ℕ, suc, Bool, true, false, not, Option, Some, None, Result, refl, sym, ap, subst, ◌∙◌, option_map, arith}
-use Rattle.std.specs.Prelude.{Ok, Err, OnOk, OnErr, ◌||◌, ◌&&◌, ◌==◌, nat_lt, slice_get, is_some, if◌then◌else◌, IfSome, length}
+use Rattle.std.specs.Prelude.{Ok, Err, OnOk, OnErr, ◌||◌, ◌&&◌, ◌==◌, nat_lt, slice_get, is_some, if◌then◌else◌, IfSome, IsSome, length}
 use Rattle.std.proofs.lemmas.Bool.{or_left, or_right, lt-ltb, le-ltb}
 use Rattle.std.proofs.lemmas.Option.{none-some, slice_get_within}
 use Rattle.queue_rows.specs.Order.{IsFront}
@@ -86,11 +86,10 @@ told_front : (reading : ℕ) (w : World) (i n : ℕ) → IsOwed w i n → IsFron
 told_front reading w i n k =
     subst (λ v. IsFront (flushed i w).entries v.entries) (sym (session_tells reading i k.session k.untold w k.there k.called)) (grows_told i k.session k.untold.number w)
 
-pub untold_front : (w new : World) (i n : ℕ) → IsOwed w i n → IsUntold i w new → (reading : ℕ) → IsFront new.entries (session_turn reading i w).entries
-untold_front w new i n k (inl e) reading =
+pub untold_front : (w new : World) (i n : ℕ) → IsOwed w i n → new ≡ w → (reading : ℕ) → IsFront new.entries (session_turn reading i w).entries
+untold_front w new i n k e reading =
     subst (λ v. IsFront v.entries (session_turn reading i w).entries) (sym e)
     (front_trans w.entries (flushed i w).entries (session_turn reading i w).entries (grows_flushed i w) (told_front reading w i n k))
-untold_front w new i n k (inr e) reading = subst (λ v. IsFront v.entries (session_turn reading i w).entries) (sym e) (told_front reading w i n k)
 
 -- what is said for each reading is said for one
 pub ok_at : {T E : Type 0} (P : ℕ → Type 0) (r : Result T E) (n : ℕ) → OnOk r ((m : ℕ) → P m) → OnOk r (P n)
@@ -205,8 +204,12 @@ owed_reads w i n lt k = rw (below i lt, k.there, k.called) (reads_owed k.session
 pub calling_broken : (reading : ℕ) (w new : World) (i : ℕ) → i < 64 → IsCalling w i → IsUndone i reading w new → IsBrokenOff i reading w new
 calling_broken reading w new i lt k u = undone_broken i reading w new (calling_reads w i lt k) u
 
-pub owed_broken : (reading : ℕ) (w new : World) (i n : ℕ) → i < 64 → IsOwed w i n → IsUntold i w new → IsBrokenOff i reading w new
-owed_broken reading w new i n lt k u = untold_broken i reading w new (owed_reads w i n lt k) u
+pub owed_broken : (reading : ℕ) (w new : World) (i n : ℕ) → i < 64 → IsOwed w i n → new ≡ w → IsBrokenOff i reading w new
+owed_broken reading w new i n lt k e = untold_broken i reading w new (owed_reads w i n lt k) (inl e)
+
+-- who is owed a reply was not told yet
+pub owed_some : (w : World) (i n : ℕ) → IsOwed w i n → OfSession i w (λ s. IsSome s.untold)
+owed_some w i n k = subst (λ o. IfSome o (λ s. IsSome s.untold)) (sym k.there) (subst IsSome (sym k.called) refl)
 
 -- ---- the timer and the propagator
 

@@ -171,7 +171,8 @@ fn make_ready<D: Disk>(
     if may_follow(state.run(), sending) {
         return Ok(());
     }
-    state.flush(actor)
+    state.flush(actor)?;
+    Ok(())
 }
 
 /// Makes the step. At want of memory all is as before.

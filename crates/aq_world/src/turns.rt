@@ -1,10 +1,9 @@
 // The turns of the sessions, the timer, the propagator and the closing turn.
-ghost use Rattle.std.specs.Prelude.{◌≡◌, ◌<◌, ◌^◌, ℕ, not, length, OnOk, OnErr, IfOk, slice_get};
+ghost use Rattle.std.specs.Prelude.{◌≡◌, ◌<◌, ◌^◌, ℕ, not, length, OnOk, OnErr, IfOk, IfErr, slice_get};
 ghost use Rattle.queue_rows.specs.Order.{IsFront};
 ghost use Rattle.queue_rows.specs.Turns.{closing_turn, drained, drained_once, is_still, propagator_turn, session_turn, timer_turn, DrainsIn};
 ghost use Rattle.run_laws.specs.ValidRun.{IsValidWorld};
 ghost use Rattle.queue_rows.specs.World.{read_clock};
-ghost use Rattle.run_state.specs.Entries.{IsUntold};
 ghost use Rattle.aq_world.specs.Going.{GoesAs};
 ghost use Rattle.aq_world.specs.Sound.{IsSound};
 ghost use Rattle.aq_world.specs.Turning.{IsActor, IsBrokenOff, IsCalling, IsDrainable, IsOwed, IsPartDrained, IsPartOfStep, IsUnclosed, IsUndone};
@@ -31,7 +30,8 @@ const PROPAGATOR: u32 = 65;
 /// The number of the closing turn among the actors.
 const CLOSING: u32 = 66;
 
-/// A turn in which the session of that number is told the reply to its statement, whatever reading it might take.
+/// A turn in which the session of that number is told the reply to its statement, whatever reading it might take. It takes no
+/// memory: where the session is not told, a call on a disk failed.
 #[tactic(auto, using(crate::proofs::Turning::told_whole, crate::proofs::Turning::untold_front))]
 fn telling_turn<D: Disk>(
     state: &mut DurableState<D>,
@@ -41,7 +41,8 @@ fn telling_turn<D: Disk>(
     requires { IsOwed state.old.world at number }
     ensures ok { OnOk result ((reading : ℕ) → state.new.world ≡ session_turn reading at state.old.world) }
     ensures end { IfOk result (λ end. end ≡ Done) }
-    ensures err { OnErr result (IsUntold at state.old.world state.new.world) }
+    ensures err { OnErr result (state.new.world ≡ state.old.world) }
+    ensures why { IfErr result (λ why. why ≡ Broken.Halted) }
     ensures front { OnErr result ((reading : ℕ)
         → IsFront state.new.world.entries (session_turn reading at state.old.world).entries) }
     ensures disks { GoesAs D.seen D.is_image D.calls D.faults result state.old state.new }

@@ -1,0 +1,8 @@
+use Rattle.aq_world.proofs.Goings.{as_failed, as_ok, quiet_by}
+use Rattle.aq_world.proofs.sending.make_ready.Goals as goal
+
+pub returns-in_err-flush-clause-disks : goal.returns-in_err-flush-clause-disks
+returns-in_err-flush-clause-disks g c = as_failed c.from_residual.result _ _ c.from_residual.ensures.1 c.flush.ensures.disks c.in_err-flush.ensures.halted
+
+pub returns-clause-disks : goal.returns-clause-disks
+returns-clause-disks g c = as_ok _ _ _ (quiet_by _ _ c.flush.ensures.disks (λ failed. absurd (c.in_ok-flush.ensures.unfailed failed)))
