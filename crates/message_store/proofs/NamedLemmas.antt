@@ -38,7 +38,7 @@ module _ {X : Type 0} where
       ap (λ (o : Option X). option_map_or (λ _. slice_set rows at row) o rows) there
 
   -- a row that goes leaves those that stay
-  stays_without : (goes : X → Bool) (rows : List X) (at : ℕ) (row : X) → slice_get rows at ≡ Some row → goes row ≡ true
+  pub stays_without : (goes : X → Bool) (rows : List X) (at : ℕ) (row : X) → slice_get rows at ≡ Some row → goes row ≡ true
       → filter (λ x. not (goes x)) (remove rows at) ≡ filter (λ x. not (goes x)) rows
   stays_without goes [] at row there is = cc there
   stays_without goes (x ∷ xs) zero row there is =
@@ -53,10 +53,10 @@ module _ {X : Type 0} where
   none_within (x ∷ xs) (suc at) none within = none_within xs at none (omega (arith, within))
 
   -- the row at a position passes
-  record Passes (test : X → Bool) (rows : List X) (at : ℕ) : Type 0 where
-    row : X
-    there : slice_get rows at ≡ Some row
-    passes : test row ≡ true
+  pub record Passes (test : X → Bool) (rows : List X) (at : ℕ) : Type 0 where
+    pub row : X
+    pub there : slice_get rows at ≡ Some row
+    pub passes : test row ≡ true
 
   pub passes_at : (test : X → Bool) (rows : List X) (at : ℕ) → position test rows ≡ Some at → at < length rows → Passes test rows at
   passes_at test rows at found within = by (slice_get rows at) refl

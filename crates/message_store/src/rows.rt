@@ -166,6 +166,7 @@ fn exception_by_walk(rows: &NamedList<QueueRow>, table: &Name) -> Option<usize>
     ensures first { result ≡ position (λ q. bytes_eq q.name (exception_name table.now)) rows.now }
     ensures within { IfSome result (λ i. i < length rows.now) }
 {
+    let _most = rows.len();
     let table = table.as_str().as_bytes();
     rows.iter()
         .position(|r| is_exception_name(r.name.as_str().as_bytes(), table))
