@@ -8,8 +8,8 @@ ghost use Rattle.run_state.specs.Sessions.{changed_at, with_pending, IsFreeIn};
 
 use crate::call_effect::Holdings;
 use crate::holdings::{make_room, release, take};
-use crate::run_database::{RunDatabase, commit_both};
 use crate::reserved_list::ReservedList;
+use crate::run_database::{RunDatabase, commit_both};
 use crate::session_registry::SessionRegistry;
 use queue_rows::{Entry, Pending};
 use std::alloc::AllocError;

@@ -26,11 +26,7 @@ pub count-requires : goal.count-requires
 count-requires g c =
     let w = c.self.inside.state in
     let v = c.flush.new.self in
-    let l = c.self.inside.logs in
-    let m = c.append.new.self in
-    let n = c.count.new.self in
     let late : is_durable w ≡ false = sym c.is_durable.ensures ∙ c.if-is_durable.false in
-    let a : Adds true [] [] w v = subst (λ (u : World). Adds true [] [] w u) (sym c.flush.ensures) (adds_flush c.args.actor w late) in
     let takes = subst (λ (u : World). promised u + 1 ≤ promised w) (sym c.flush.ensures) (flush_takes c.args.actor w late) in
     let same = ap (λ l. length l.items) c.append.ensures.calls in
     let most = ap (λ l. l.capacity) c.append.ensures.calls in

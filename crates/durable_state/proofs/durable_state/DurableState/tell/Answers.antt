@@ -11,7 +11,6 @@ use Rattle.durable_state.proofs.durable_state.DurableState.tell.Goals as goal
 pub tell-requires : goal.tell-requires
 tell-requires g c =
     let w = c.self-2.inside.state in
-    let v = c.tell.new.self in
     let now = flushed_behind c.args.at c.self.inside.state c.args.self.now.world c.flush.new.self.world w (ap (λ (o : Held _). o.world) c.self.view_is) (ap (λ (o : Held _). o.world) c.self-2.view_is) c.in_ok-flush.ensures.ok in
     let behind = now ∙ ap (λ (o : Held _). flushed c.args.at o.world) c.self.view_is in
     owed_behind c.args.at c.args.self.now.world w behind c.requires
@@ -29,8 +28,8 @@ pass-requires g c =
     let room = c.self-2.invariant.room in
     omega (arith, takes, room)
 
-pub invariant_of-self-2 : goal.invariant_of-self-2
-invariant_of-self-2 g c =
+pub invariant_of-self : goal.invariant_of-self
+invariant_of-self g c =
     let w = c.self-2.inside.state in
     let v = c.tell.new.self in
     let now = flushed_behind c.args.at c.self.inside.state c.args.self.now.world c.flush.new.self.world w (ap (λ (o : Held _). o.world) c.self.view_is) (ap (λ (o : Held _). o.world) c.self-2.view_is) c.in_ok-flush.ensures.ok in
