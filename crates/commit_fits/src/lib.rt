@@ -2,6 +2,8 @@
 #![tactic(auto)]
 
 mod named;
+mod queues;
 mod stays;
 
+pub use queues::leaves_queues;
 pub use stays::stays_valid;

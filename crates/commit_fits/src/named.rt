@@ -74,13 +74,13 @@ fn leaves_right<T: MessageTables>(tables: &T, change: &Change) -> Result<bool, A
             Ok(holds_right_message(tables, *id) && holds_right_queue(tables.tables(), queue))
         }
         Change::Seen(row) => Ok(row.copy < tables.tables().next),
+        Change::PutQueue(row) => Ok(holds_right_queue(tables.tables(), &row.name)),
         Change::PutSub(row) => holds_right_sub(tables.tables(), &row.queue, &row.name),
         Change::PutSchedule(row) => {
             Ok(holds_right_schedule(tables.tables(), &row.queue, &row.to))
         }
         Change::PutTable(_)
         | Change::DropTable(_)
-        | Change::PutQueue(_)
         | Change::DropQueue(_)
         | Change::DropSub { .. }
         | Change::DropSchedule { .. }

@@ -1,7 +1,7 @@
 -- A commit that is made change by change.
-use Rattle.std.proofs.Common.{◌≡◌, ℕ, Bool, true, false, List, [], ◌∷◌, Some, Result, Ok, Err, IfOk, max, refl, sym, ap, ◌∙◌, arith}
+use Rattle.std.proofs.Common.{◌≡◌, ℕ, Bool, true, false, List, [], ◌∷◌, Option, Some, Result, Ok, Err, IfOk, max, refl, sym, ap, subst, ◌∙◌, arith}
 use Rattle.std.specs.Bool.{OnTrue}
-use Rattle.std.specs.Prelude.{◌&&◌}
+use Rattle.std.specs.Prelude.{◌&&◌, IfSome}
 use Rattle.queue_rows.specs.Fits.{all_name_what_is_there, fits}
 use Rattle.queue_rows.specs.Tables.{after, after_all, after_change}
 use Rattle.queue_rows.specs.Valid.{is_valid}
@@ -11,6 +11,7 @@ use Rattle.queue_rows.specs.declared.tables.Tables.{Tables}
 use Rattle.redo_records.specs.Reading.{decode}
 use Rattle.redo_records.specs.Recovered.{after_body}
 use Rattle.redo_records.specs.Spelled.{HasSpelling}
+use Rattle.fit_laws.specs.FitLaws.{all_leave_queues}
 use Rattle.commit_fits.specs.Told.{TellsFit}
 use Rattle.database_recovery.specs.Recovering.{Makes}
 use Rattle.database_recovery.specs.Sound.{IsSound}
@@ -40,17 +41,16 @@ pub raised_is_after : (t u new : Tables) (c : Commit) → u ≡ after_all t c.ch
 unfolding after
 raised_is_after t u new c made raised = raised ∙ ap (λ (v : Tables). record v { latest = max v.latest c.moment }) made
 
-pub holds_on_true : (b : Bool) (t u : Tables) → b ≡ true → OnTrue b (t ≡ u) → t ≡ u
-holds_on_true true t u e h = h
-holds_on_true false t u e h = cc
+pub where_some : {A : Type 0} (P : A → Type 0) (o : Option A) (a : A) → o ≡ Some a → IfSome o P → P a
+where_some P o a e h = subst (λ x. IfSome x P) e h
 
 -- what is told of the tables after the commit is whether it fits
-pub told_fits : {E : Type 0} (answer : Result Bool E) (t new : Tables) (c : Commit) (named : List Change) → named ≡ c.changes → is_valid t ≡ true
-    → all_name_what_is_there t c.changes ≡ true → new ≡ after t c → IfOk answer (TellsFit new named) → IfOk answer (λ fitting. fitting ≡ fits t c)
-told_fits (Ok told) t new c named same valid all_named made tells =
-    tells t c.moment (record { valid = valid; named = rw same all_named; made = made ∙ ap (λ cs. after t (record { moment = c.moment; changes = cs })) (sym same) })
+pub told_fits : {E : Type 0} (answer : Result Bool E) (t new : Tables) (c : Commit) (named : List Change) (left : Bool) → named ≡ c.changes → is_valid t ≡ true
+    → all_name_what_is_there t c.changes ≡ true → left ≡ all_leave_queues t c.changes → new ≡ after t c → IfOk answer (TellsFit new named left) → IfOk answer (λ fitting. fitting ≡ fits t c)
+told_fits (Ok told) t new c named left same valid all_named leave made tells =
+    tells t c.moment (record { valid = valid; named = rw same all_named; queues = λ e. rw same (sym leave ∙ e); made = made ∙ ap (λ cs. after t (record { moment = c.moment; changes = cs })) (sym same) })
     ∙ ap (λ cs. fits t (record { moment = c.moment; changes = cs })) same
-told_fits (Err e) t new c named same valid all_named made tells = tt
+told_fits (Err e) t new c named left same valid all_named leave made tells = tt
 
 pub made_if_told : {E : Type 0} (answer : Result Bool E) (t u : Tables) → t ≡ u → IfOk answer (λ fitting. OnTrue fitting (t ≡ u))
 made_if_told (Ok true) t u e = e

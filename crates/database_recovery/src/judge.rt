@@ -1,52 +1,66 @@
 // Whether a commit fits the tables of a store, and making it there.
-ghost use Rattle.std.specs.Prelude.{◌≡◌, IfOk, OnOk, max, true};
+ghost use Rattle.std.specs.Prelude.{◌≡◌, IfOk, IfSome, OnOk, is_some, max, true};
 ghost use Rattle.std.specs.Bool.{OnTrue};
 ghost use Rattle.queue_rows.specs.Fits.{names_what_is_there, all_name_what_is_there, fits};
 ghost use Rattle.queue_rows.specs.Tables.{after_change, after_all, after};
 ghost use Rattle.queue_rows.specs.Valid.{is_valid};
+ghost use Rattle.fit_laws.specs.FitLaws.{leaves_queues, all_leave_queues};
 
-use commit_fits::stays_valid;
+use commit_fits::{leaves_queues, stays_valid};
 use message_store::PreparedStore;
 use payload_records::List;
 use queue_rows::{Change, Commit};
 use std::alloc::{AllocError, Global};
 use valid_tables::names_what_is_there;
 
-// Makes a change where what it names is there, and answers whether it is.
+// Makes a change where what it names is there, and then answers whether it leaves the queues that are there.
 #[tactic(auto, using(crate::proofs::Judging::after_one))]
-fn make_change(alloc: Global, store: &mut PreparedStore, change: Change) -> Result<bool, AllocError>
-    ensures named { IfOk result (λ named. named ≡ names_what_is_there store.old.tables change) }
-    ensures made { IfOk result (λ named. OnTrue named
-        (store.new.tables ≡ after_change store.old.tables change)) }
+fn make_change(
+    alloc: Global,
+    store: &mut PreparedStore,
+    change: Change,
+) -> Result<Option<bool>, AllocError>
+    ensures named { IfOk result (λ made. is_some made ≡ names_what_is_there store.old.tables change) }
+    ensures made { IfOk result (λ made. IfSome made (λ _.
+        store.new.tables ≡ after_change store.old.tables change)) }
+    ensures left { IfOk result (λ made. IfSome made (λ left.
+        left ≡ leaves_queues store.old.tables change)) }
 {
     if !names_what_is_there(store, &change) {
-        return Ok(false);
+        return Ok(None);
     }
+    let left = leaves_queues(store.tables(), &change);
     let mut changes = List::new(alloc);
     changes.push(change)?;
     let commit = Commit { moment: 0, changes };
     store.prepare(&commit)?;
     store.apply(commit);
-    Ok(true)
+    Ok(Some(left))
 }
 
-// Makes changes in order as long as what they name is there when they come, and answers whether it is.
+// Makes changes in order where what they name is there when they come, and then answers whether each leaves the queues that are there when
+// it comes.
 fn make_changes(
     alloc: Global,
     store: &mut PreparedStore,
     changes: List<Change>,
-) -> Result<bool, AllocError>
-    ensures named { IfOk result (λ named. named ≡ all_name_what_is_there store.old.tables changes) }
-    ensures made { IfOk result (λ named. OnTrue named
-        (store.new.tables ≡ after_all store.old.tables changes)) }
+) -> Result<Option<bool>, AllocError>
+    ensures named { IfOk result (λ made.
+        is_some made ≡ all_name_what_is_there store.old.tables changes) }
+    ensures made { IfOk result (λ made. IfSome made (λ _.
+        store.new.tables ≡ after_all store.old.tables changes)) }
+    ensures left { IfOk result (λ made. IfSome made (λ left.
+        left ≡ all_leave_queues store.old.tables changes)) }
 {
     let mut changes = changes.into_vec();
+    let mut left = true;
     for change in changes.drain(..) {
-        if !make_change(alloc, store, change)? {
-            return Ok(false);
-        }
+        let Some(one) = make_change(alloc, store, change)? else {
+            return Ok(None);
+        };
+        left = left && one;
     }
-    Ok(true)
+    Ok(Some(left))
 }
 
 #[tactic(auto, using(crate::proofs::Judging::after_none))]
@@ -77,9 +91,9 @@ pub(crate) fn make_fitting(
         (store.new.tables ≡ after store.old.tables commit)) }
 {
     let Commit { moment, changes } = commit;
-    if !make_changes(alloc, store, changes)? {
+    let Some(left) = make_changes(alloc, store, changes)? else {
         return Ok(false);
-    }
+    };
     raise_latest(alloc, store, moment)?;
-    stays_valid(alloc, store, named)
+    stays_valid(alloc, store, named, left)
 }

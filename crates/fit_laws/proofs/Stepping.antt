@@ -1,8 +1,9 @@
--- What one change that leaves queues as they are makes of tables: they have grown, and each row is as it was or one that the change
--- names; and rows stay distinct.
+-- What one change that leaves the queues that are there makes of tables: they have grown, and each row is as it was or one that the
+-- change names; and rows stay distinct.
 use Rattle.std.proofs.Common.{◌≡◌, ◌≤◌, ◌+◌, ℕ, List, [], ◌∷◌, ◌++◌, Bool, true, false, not, length, max, refl, sym, ap, ◌∙◌, arith, Option, Some, None, ◌==◌, ◌&&◌, ◌||◌, ◌⊎◌, inl, inr, ℤ}
-use Rattle.std.specs.Prelude.{find, filter, is_some, option_map, if◌then◌else◌}
+use Rattle.std.specs.Prelude.{find, filter, int_le, is_some, option_map, if◌then◌else◌}
 use Rattle.std.specs.List.{list_any, list_all}
+use Rattle.std.specs.Option.{option_map_or}
 use Rattle.std.specs.Str.{bytes_eq}
 use Rattle.std.proofs.lemmas.Bool.{and_from, and_parts, eqb-true, not-true, false≢true}
 use Rattle.queue_rows.specs.Rows.{find_message, find_queue, changed_first, is_same_queue, is_same_sub, is_same_schedule, with_slot}
@@ -14,6 +15,8 @@ use Rattle.queue_rows.specs.Fits.{names_what_is_there}
 use Rattle.queue_rows.specs.declared.tables.Tables.{Tables}
 use Rattle.queue_rows.specs.declared.rows.MsgRow.{MsgRow}
 use Rattle.queue_rows.specs.declared.rows.QueueRow.{QueueRow}
+use Rattle.queue_rows.specs.declared.rows.QueueKind.{QueueKind}
+use Rattle.queue_rows.specs.declared.rows.QueueKind.TheVariants as kinds
 use Rattle.queue_rows.specs.declared.rows.SubRow.{SubRow}
 use Rattle.queue_rows.specs.declared.rows.ScheduleRow.{ScheduleRow}
 use Rattle.queue_rows.specs.declared.rows.SeenRow.{SeenRow}
@@ -25,13 +28,13 @@ use Rattle.row_laws.specs.RowLaws.{puts_new}
 use Rattle.row_laws.proofs.Distinctly.{stays_distinct}
 use Rattle.row_laws.proofs.Finding.{found_is}
 use Rattle.row_laws.proofs.Queues.{lowered_name, lowered_seen}
-use Rattle.valid_laws.specs.ValidLaws.{keeps_queues}
 use Rattle.valid_laws.proofs.Cataloguing.{same_name, own_name}
 use Rattle.valid_laws.proofs.Doing.{all-append}
 use Rattle.valid_laws.proofs.Framing.{lowered_le}
 use Rattle.valid_laws.proofs.Lowering.{find_either}
 use Rattle.valid_laws.proofs.Parts.{all_changed_first, all_removed_first}
-use Rattle.valid_laws.proofs.Placing.{all_put, distinct_put, distinct_removed, fewer_removed, fewer_put}
+use Rattle.valid_laws.proofs.Placing.{all_put, distinct_put, distinct_removed, fewer_removed, fewer_put, find_put, find_other_put}
+use Rattle.fit_laws.specs.FitLaws.{is_same_kind, stands_for, leaves_queues}
 use Rattle.fit_laws.proofs.Growing.{IsLower, HasGrown, lower_self, grown_self}
 use Rattle.fit_laws.proofs.Lists.{distinct_last, distinct_first}
 
@@ -91,12 +94,50 @@ grown_beside t u a b c d e = record {
   latest = omega arith;
 }
 
-pub grown_one : (t : Tables) (c : Change) → keeps_queues c ≡ true → HasGrown t (after_change t c)
+same_kind : (a b : QueueKind) → is_same_kind a b ≡ true → a ≡ b
+same_kind kinds.Normal kinds.Normal e = refl
+same_kind kinds.Normal kinds.Exception e = absurd (false≢true e)
+same_kind kinds.Exception kinds.Normal e = absurd (false≢true e)
+same_kind kinds.Exception kinds.Exception e = refl
+
+module _ (t : Tables) (row : QueueRow) (k : leaves_queues t (changes.PutQueue row) ≡ true) where
+  abbrev put_there : Tables
+  put_there = after_change t (changes.PutQueue row)
+
+  stood : (name : List ℕ) (q : QueueRow) (b : Bool) → bytes_eq row.name name ≡ b → find_queue t name ≡ Some q → IsLower put_there name q
+  stood name q true e f =
+      let same : row.name ≡ name = same_name row.name name e in
+      let stands : stands_for row q ≡ true = sym (ap (λ o. option_map_or (stands_for row) o true) (ap (find_queue t) same ∙ f)) ∙ k in
+      let p = and_parts (bytes_eq row.table q.table && is_same_kind row.kind q.kind && (row.max_retries == q.max_retries)) (int_le row.lowest q.lowest) stands in
+      let r = and_parts (bytes_eq row.table q.table && is_same_kind row.kind q.kind) (row.max_retries == q.max_retries) p.0 in
+      let s = and_parts (bytes_eq row.table q.table) (is_same_kind row.kind q.kind) r.0 in
+      record {
+        row = row;
+        row_is = find_put is_same_queue row (λ x. bytes_eq x.name name) e (λ x g. ap (bytes_eq x.name) (sym same) ∙ g) t.queues;
+        table = same_name row.table q.table s.0;
+        kind = same_kind row.kind q.kind s.1;
+        retries = eqb-true row.max_retries q.max_retries r.1;
+        lowest = p.1;
+      }
+  stood name q false e f =
+      lower_self put_there name q
+      (find_other_put is_same_queue row (λ x. bytes_eq x.name name) e (λ x g. ap (λ n. bytes_eq n name) (same_name x.name row.name g) ∙ e) t.queues ∙ f)
+
+  grown_queue : HasGrown t put_there
+  grown_queue = record {
+    tables = refl;
+    queues = λ name q f. stood name q (bytes_eq row.name name) refl f;
+    next = omega arith;
+    transaction = omega arith;
+    latest = omega arith;
+  }
+
+pub grown_one : (t : Tables) (c : Change) → leaves_queues t c ≡ true → HasGrown t (after_change t c)
 grown_one t (changes.Enqueued row) k = grown_put t row
 grown_one t (changes.Moved id queue at) k = grown_moved t (find_message t id) queue at
 grown_one t (changes.PutTable row) k = absurd (false≢true k)
 grown_one t (changes.DropTable name) k = absurd (false≢true k)
-grown_one t (changes.PutQueue row) k = absurd (false≢true k)
+grown_one t (changes.PutQueue row) k = grown_queue t row k
 grown_one t (changes.DropQueue name) k = absurd (false≢true k)
 grown_one t (changes.Counters next transaction latest) k = absurd (false≢true k)
 grown_one t (changes.PutSub row) k = grown_beside t (after_change t (changes.PutSub row)) refl refl refl refl refl
@@ -143,7 +184,7 @@ module _ (q : MsgRow → Bool) (t : Tables) where
 own_id : (n : ℕ) → (n == n) ≡ true
 own_id n = Rattle.std.proofs.lemmas.Bool.eq-eqb n n refl
 
-pub messages_one : (q : MsgRow → Bool) (t : Tables) (c : Change) → keeps_queues c ≡ true → ((m : MsgRow) → marks_message c m ≡ true → q m ≡ true) → list_all q t.messages ≡ true → list_all q (after_change t c).messages ≡ true
+pub messages_one : (q : MsgRow → Bool) (t : Tables) (c : Change) → leaves_queues t c ≡ true → ((m : MsgRow) → marks_message c m ≡ true → q m ≡ true) → list_all q t.messages ≡ true → list_all q (after_change t c).messages ≡ true
 messages_one q t (changes.Enqueued row) e k h = all-append q t.messages (row ∷ []) h (and_from (q row) true (k row (own_id row.id)) refl)
 messages_one q t (changes.Retried id slot retries until at) e k h = slots_one q t id slot (retried retries until at) k h
 messages_one q t (changes.Ready id slot at) e k h = slots_one q t id slot (in_state states.Ready at) k h
@@ -158,10 +199,11 @@ messages_one q t _ e k h = h
 
 -- ---- queues
 
--- the change puts a message into that queue
+-- the change puts that queue, or a message into it
 abbrev pub marks_queue : Change → QueueRow → Bool
 marks_queue (changes.Enqueued row) q = bytes_eq q.name row.queue
 marks_queue (changes.Moved id queue at) q = bytes_eq q.name queue
+marks_queue (changes.PutQueue row) q = is_same_queue q row
 marks_queue _ q = false
 
 module _ (q : QueueRow → Bool) (t : Tables) (queue : List ℕ) (k : (r : QueueRow) → bytes_eq r.name queue ≡ true → q r ≡ true) (h : list_all q t.queues ≡ true) where
@@ -177,12 +219,12 @@ module _ (q : QueueRow → Bool) (t : Tables) (queue : List ℕ) (k : (r : Queue
   lower_some at None = h
   lower_some at (Some m) = lower_if at m (is_some (find_queue t queue))
 
-pub queues_one : (q : QueueRow → Bool) (t : Tables) (c : Change) → keeps_queues c ≡ true → ((r : QueueRow) → marks_queue c r ≡ true → q r ≡ true) → list_all q t.queues ≡ true → list_all q (after_change t c).queues ≡ true
+pub queues_one : (q : QueueRow → Bool) (t : Tables) (c : Change) → leaves_queues t c ≡ true → ((r : QueueRow) → marks_queue c r ≡ true → q r ≡ true) → list_all q t.queues ≡ true → list_all q (after_change t c).queues ≡ true
 queues_one q t (changes.Enqueued row) e k h = lower_one q t row.queue k h row
 queues_one q t (changes.Moved id queue at) e k h = lower_some q t queue k h at (find_message t id)
 queues_one q t (changes.DropQueue name) e k h = absurd (false≢true e)
 queues_one q t (changes.DropTable name) e k h = absurd (false≢true e)
-queues_one q t (changes.PutQueue row) e k h = absurd (false≢true e)
+queues_one q t (changes.PutQueue row) e k h = all_put is_same_queue row q t.queues h (k row (own_name row.name))
 queues_one q t _ e k h = h
 
 -- ---- subscribers and schedules
@@ -211,7 +253,7 @@ module _ {Y : Type 0} (g : Tables → Y) (t : Tables) (queue : List ℕ) (at : �
   beside_moves None = refl
   beside_moves (Some m) = beside_if m (is_some (find_queue t queue))
 
-pub subs_one : (q : SubRow → Bool) (t : Tables) (c : Change) → keeps_queues c ≡ true → ((s : SubRow) → marks_sub c s ≡ true → q s ≡ true) → list_all q t.subs ≡ true → list_all q (after_change t c).subs ≡ true
+pub subs_one : (q : SubRow → Bool) (t : Tables) (c : Change) → leaves_queues t c ≡ true → ((s : SubRow) → marks_sub c s ≡ true → q s ≡ true) → list_all q t.subs ≡ true → list_all q (after_change t c).subs ≡ true
 subs_one q t (changes.PutSub row) e k h = all_put is_same_sub row q t.subs h (k row (own_sub row))
 subs_one q t (changes.DropSub queue name) e k h = all_removed_first q (λ s. bytes_eq s.queue queue && bytes_eq s.name name) t.subs h
 subs_one q t (changes.Moved id queue at) e k h = ap (list_all q) (beside_moves (λ u. u.subs) t queue at (λ m. refl) (find_message t id)) ∙ h
@@ -219,7 +261,7 @@ subs_one q t (changes.DropQueue name) e k h = absurd (false≢true e)
 subs_one q t (changes.DropTable name) e k h = absurd (false≢true e)
 subs_one q t _ e k h = h
 
-pub schedules_one : (q : ScheduleRow → Bool) (t : Tables) (c : Change) → keeps_queues c ≡ true → ((s : ScheduleRow) → marks_schedule c s ≡ true → q s ≡ true) → list_all q t.schedules ≡ true → list_all q (after_change t c).schedules ≡ true
+pub schedules_one : (q : ScheduleRow → Bool) (t : Tables) (c : Change) → leaves_queues t c ≡ true → ((s : ScheduleRow) → marks_schedule c s ≡ true → q s ≡ true) → list_all q t.schedules ≡ true → list_all q (after_change t c).schedules ≡ true
 schedules_one q t (changes.PutSchedule row) e k h = all_put is_same_schedule row q t.schedules h (k row (own_schedule row))
 schedules_one q t (changes.DropSchedule queue to) e k h = all_removed_first q (λ s. bytes_eq s.queue queue && bytes_eq s.to to) t.schedules h
 schedules_one q t (changes.Moved id queue at) e k h = ap (list_all q) (beside_moves (λ u. u.schedules) t queue at (λ m. refl) (find_message t id)) ∙ h
@@ -239,7 +281,7 @@ le_same : (a b : ℕ) → a ≡ b → a ≤ b
 le_same a b e = omega arith
 
 -- any other leaves it no more subscribers
-pub fewer_one : (t : Tables) (c : Change) (queue : List ℕ) → keeps_queues c ≡ true → subscribes queue c ≡ false → length (subscribers_of (after_change t c) queue) ≤ length (subscribers_of t queue)
+pub fewer_one : (t : Tables) (c : Change) (queue : List ℕ) → leaves_queues t c ≡ true → subscribes queue c ≡ false → length (subscribers_of (after_change t c) queue) ≤ length (subscribers_of t queue)
 fewer_one t (changes.PutSub row) queue e h = fewer_put is_same_sub row (λ s. bytes_eq s.queue queue) h t.subs
 fewer_one t (changes.DropSub named name) queue e h = fewer_removed (λ s. bytes_eq s.queue queue) (λ s. bytes_eq s.queue named && bytes_eq s.name name) t.subs
 fewer_one t (changes.Moved id to at) queue e h =
@@ -258,7 +300,7 @@ saw _ = []
 append_none : (rows : List SeenRow) → rows ≡ rows ++ []
 append_none rows = sym (Rattle.std.proofs.Common.append-nil rows)
 
-pub seen_one : (t : Tables) (c : Change) → keeps_queues c ≡ true → (after_change t c).seen ≡ t.seen ++ saw c
+pub seen_one : (t : Tables) (c : Change) → leaves_queues t c ≡ true → (after_change t c).seen ≡ t.seen ++ saw c
 seen_one t (changes.Seen row) e = refl
 seen_one t (changes.Moved id queue at) e = beside_moves (λ u. u.seen) t queue at (λ m. refl) (find_message t id) ∙ append_none t.seen
 seen_one t (changes.DropQueue name) e = absurd (false≢true e)
@@ -275,13 +317,16 @@ new_if_named t _ e = refl
 lowered_distinct : (t : Tables) (m : MsgRow) (queue : List ℕ) → are_distinct is_same_queue (changed_first (λ q. bytes_eq q.name queue) (lowered t m) t.queues) ≡ are_distinct is_same_queue t.queues
 lowered_distinct t m queue = distinct_first is_same_queue (lowered t m) (λ x y. ap (λ n. bytes_eq n y.name) (lowered_name t m x)) (λ x y. ap (λ n. bytes_eq x.name n) (lowered_name t m y)) (λ q. bytes_eq q.name queue) t.queues
 
-queues_distinct : (t : Tables) (c : Change) → keeps_queues c ≡ true → are_distinct is_same_queue (after_change t c).queues ≡ are_distinct is_same_queue t.queues
-queues_distinct t (changes.Enqueued row) e = lowered_distinct t row row.queue
-queues_distinct t (changes.Moved id queue at) e = beside_moves (λ u. are_distinct is_same_queue u.queues) t queue at (λ m. lowered_distinct t (moved_to queue at m) queue) (find_message t id)
-queues_distinct t (changes.DropQueue name) e = absurd (false≢true e)
-queues_distinct t (changes.DropTable name) e = absurd (false≢true e)
-queues_distinct t (changes.PutQueue row) e = absurd (false≢true e)
-queues_distinct t _ e = refl
+alike_queues : (row x y : QueueRow) → is_same_queue x row ≡ true → is_same_queue row y ≡ is_same_queue x y
+alike_queues row x y e = ap (λ n. bytes_eq n y.name) (sym (same_name x.name row.name e))
+
+queues_distinct : (t : Tables) (c : Change) → leaves_queues t c ≡ true → are_distinct is_same_queue t.queues ≡ true → are_distinct is_same_queue (after_change t c).queues ≡ true
+queues_distinct t (changes.Enqueued row) e d = lowered_distinct t row row.queue ∙ d
+queues_distinct t (changes.Moved id queue at) e d = beside_moves (λ u. are_distinct is_same_queue u.queues) t queue at (λ m. lowered_distinct t (moved_to queue at m) queue) (find_message t id) ∙ d
+queues_distinct t (changes.DropQueue name) e d = absurd (false≢true e)
+queues_distinct t (changes.DropTable name) e d = absurd (false≢true e)
+queues_distinct t (changes.PutQueue row) e d = distinct_put is_same_queue row (alike_queues row) t.queues d
+queues_distinct t _ e d = d
 
 pub join_names : (a b c : List ℕ) → bytes_eq a c ≡ true → bytes_eq b c ≡ true → bytes_eq a b ≡ true
 join_names a b c e g = ap (bytes_eq a) (same_name b c g) ∙ e
@@ -308,7 +353,7 @@ alike_schedules row x y e =
     let p = and_parts (bytes_eq x.queue row.queue) (bytes_eq x.to row.to) e in
     ap (λ n. bytes_eq n y.queue && bytes_eq row.to y.to) (sym (same_name x.queue row.queue p.0)) ∙ ap (λ n. bytes_eq x.queue y.queue && bytes_eq n y.to) (sym (same_name x.to row.to p.1))
 
-subs_distinct : (t : Tables) (c : Change) → keeps_queues c ≡ true → are_distinct is_same_sub t.subs ≡ true → are_distinct is_same_sub (after_change t c).subs ≡ true
+subs_distinct : (t : Tables) (c : Change) → leaves_queues t c ≡ true → are_distinct is_same_sub t.subs ≡ true → are_distinct is_same_sub (after_change t c).subs ≡ true
 subs_distinct t (changes.PutSub row) e d = distinct_put is_same_sub row (alike_subs row) t.subs d
 subs_distinct t (changes.DropSub queue name) e d = distinct_removed is_same_sub (λ s. bytes_eq s.queue queue && bytes_eq s.name name) t.subs d
 subs_distinct t (changes.Moved id queue at) e d = beside_moves (λ u. are_distinct is_same_sub u.subs) t queue at (λ m. refl) (find_message t id) ∙ d
@@ -316,7 +361,7 @@ subs_distinct t (changes.DropQueue name) e d = absurd (false≢true e)
 subs_distinct t (changes.DropTable name) e d = absurd (false≢true e)
 subs_distinct t _ e d = d
 
-schedules_distinct : (t : Tables) (c : Change) → keeps_queues c ≡ true → are_distinct is_same_schedule t.schedules ≡ true → are_distinct is_same_schedule (after_change t c).schedules ≡ true
+schedules_distinct : (t : Tables) (c : Change) → leaves_queues t c ≡ true → are_distinct is_same_schedule t.schedules ≡ true → are_distinct is_same_schedule (after_change t c).schedules ≡ true
 schedules_distinct t (changes.PutSchedule row) e d = distinct_put is_same_schedule row (alike_schedules row) t.schedules d
 schedules_distinct t (changes.DropSchedule queue to) e d = distinct_removed is_same_schedule (λ s. bytes_eq s.queue queue && bytes_eq s.to to) t.schedules d
 schedules_distinct t (changes.Moved id queue at) e d = beside_moves (λ u. are_distinct is_same_schedule u.schedules) t queue at (λ m. refl) (find_message t id) ∙ d
@@ -334,7 +379,7 @@ unseen row (s ∷ rows) =
     ∙ ap (λ b. ((s.id == row.id) && b) || list_any (is_same_seen row) rows) (eqb_turned row.slot s.slot)
     ∙ ap (λ b. is_same_seen s row || b) (unseen row rows)
 
-seen_distinct : (t : Tables) (c : Change) → keeps_queues c ≡ true → names_what_is_there t c ≡ true → are_distinct is_same_seen t.seen ≡ true → are_distinct is_same_seen (after_change t c).seen ≡ true
+seen_distinct : (t : Tables) (c : Change) → leaves_queues t c ≡ true → names_what_is_there t c ≡ true → are_distinct is_same_seen t.seen ≡ true → are_distinct is_same_seen (after_change t c).seen ≡ true
 seen_distinct t (changes.Seen row) e n d = distinct_last is_same_seen t.seen row d (sym (unseen row t.seen) ∙ not-true (list_any (is_same_seen row) t.seen) n)
 seen_distinct t (changes.Moved id queue at) e n d = beside_moves (λ u. are_distinct is_same_seen u.seen) t queue at (λ m. refl) (find_message t id) ∙ d
 seen_distinct t (changes.DropQueue name) e n d = absurd (false≢true e)
@@ -349,9 +394,9 @@ pub record StandApart (t : Tables) : Type 0 where
   pub messages : are_distinct is_same_message t.messages ≡ true
   pub seen : are_distinct is_same_seen t.seen ≡ true
 
-pub apart_one : (t : Tables) (c : Change) → keeps_queues c ≡ true → names_what_is_there t c ≡ true → StandApart t → StandApart (after_change t c)
+pub apart_one : (t : Tables) (c : Change) → leaves_queues t c ≡ true → names_what_is_there t c ≡ true → StandApart t → StandApart (after_change t c)
 apart_one t c k n d = record {
-  queues = queues_distinct t c k ∙ d.queues;
+  queues = queues_distinct t c k d.queues;
   subs = subs_distinct t c k d.subs;
   schedules = schedules_distinct t c k d.schedules;
   messages = stays_distinct t c d.messages (new_if_named t c n);

@@ -21,10 +21,9 @@ use Rattle.queue_rows.specs.declared.change.Change.{Change}
 use Rattle.queue_rows.specs.declared.change.Change.TheVariants as changes
 use Rattle.row_laws.proofs.Latest.{at_latest}
 use Rattle.row_laws.proofs.Finding.{find-yes, find-no, found_is}
-use Rattle.valid_laws.specs.ValidLaws.{keeps_queues}
 use Rattle.valid_laws.proofs.Cataloguing.{same_name, own_name}
 use Rattle.valid_laws.proofs.Parts.{ValidParts, parts_of, valid_from, six_parts, six_from, all_found, all_weaker}
-use Rattle.fit_laws.specs.FitLaws.{FitIsLocal, holds_right_message, holds_right_queue, holds_right_sub, holds_right_schedule, leaves_right, leaves_all_right}
+use Rattle.fit_laws.specs.FitLaws.{FitIsLocal, holds_right_message, holds_right_queue, holds_right_sub, holds_right_schedule, leaves_right, leaves_all_right, all_leave_queues}
 use Rattle.fit_laws.proofs.Growing.{HasGrown, table_stays, queue_stays, sub_stays, schedule_stays, message_stays, lt_stays}
 use Rattle.fit_laws.proofs.Lists.{same_test, some_both, append_parts}
 use Rattle.fit_laws.proofs.Stepping.{marks_message, marks_queue, marks_sub, marks_schedule, subscribes, saw, messages_one, queues_one, subs_one, schedules_one, own_sub, own_schedule, join_names, join_subs, join_schedules, StandApart}
@@ -63,6 +62,7 @@ module _ (u : Tables) where
   queue_of : (c : Change) (q : QueueRow) → leaves_right u c ≡ true → marks_queue c q ≡ true → find_queue u q.name ≡ Some q → is_valid_queue u q ≡ true
   queue_of (changes.Enqueued row) q h e f = held_queue row.queue q e (and_parts (holds_right_message u row.id) (holds_right_queue u row.queue) h).1 f
   queue_of (changes.Moved id queue at) q h e f = held_queue queue q e (and_parts (holds_right_message u id) (holds_right_queue u queue) h).1 f
+  queue_of (changes.PutQueue row) q h e f = held_queue row.name q e h f
   queue_of _ q h e f = absurd (false≢true e)
 
   sub_of : (c : Change) (s : SubRow) → leaves_right u c ≡ true → marks_sub c s ≡ true → find_sub u s.queue s.name ≡ Some s → is_valid_sub u s ≡ true
@@ -104,7 +104,7 @@ self_queue q = own_name q.name
 join_queues : (x y m : QueueRow) → is_same_queue x m ≡ true → is_same_queue y m ≡ true → is_same_queue x y ≡ true
 join_queues x y m e g = join_names x.name y.name m.name e g
 
-module _ (t : Tables) (v : is_valid t ≡ true) (cs : List Change) (k : list_all keeps_queues cs ≡ true) (n : all_name_what_is_there t cs ≡ true) (latest : ℕ) (le : (after_all t cs).latest ≤ latest) where
+module _ (t : Tables) (v : is_valid t ≡ true) (cs : List Change) (k : all_leave_queues t cs ≡ true) (n : all_name_what_is_there t cs ≡ true) (latest : ℕ) (le : (after_all t cs).latest ≤ latest) where
   abbrev then : Tables
   then = at_latest latest (after_all t cs)
 
@@ -218,6 +218,7 @@ module _ (t : Tables) (v : is_valid t ≡ true) (cs : List Change) (k : list_all
     change_right (changes.Dropped id slot at) h = message_right id
     change_right (changes.Moved id queue at) h = and_from (holds_right_message then id) (holds_right_queue then queue) (message_right id) (queue_right queue)
     change_right (changes.Seen row) h = (and_parts (nat_lt row.copy then.next) true h).0
+    change_right (changes.PutQueue row) h = queue_right row.name
     change_right (changes.PutSub row) h = sub_right row.queue row.name
     change_right (changes.PutSchedule row) h = schedule_right row.queue row.to
     change_right _ h = refl

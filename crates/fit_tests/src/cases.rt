@@ -3,7 +3,7 @@ ghost use Rattle.std.specs.Prelude.{All, IsTrue};
 ghost use Rattle.message_store.specs.Numbers.{HasNumbers};
 
 use crate::asked::{Asked, changes};
-use commit_fits::stays_valid;
+use commit_fits::{leaves_queues, stays_valid};
 use message_store::Store;
 use payload_records::List;
 use queue_rows::Change;
@@ -39,27 +39,36 @@ fn name_what_is_there(store: &Store, changes: &List<Change>) -> bool {
         .all(|change| names_what_is_there(store, change))
 }
 
-// Whether each names what is there; then they are made.
-fn make(store: &mut Store, changes: &List<Change>) -> Result<bool, AllocError> {
-    if !name_what_is_there(store, changes) || !have_numbers(changes) {
-        return Ok(false);
-    }
-    store.commit(changes, MOMENT)?;
-    Ok(true)
+fn leave_queues(store: &Store, changes: &List<Change>) -> bool {
+    changes
+        .iter()
+        .all(|change| leaves_queues(store.tables(), change))
 }
 
-fn make_one(store: &mut Store, alloc: Global, asked: &[Asked]) -> Result<bool, Fail> {
+// Where each names what is there they are made; then it is told whether each leaves the queues.
+fn make(store: &mut Store, changes: &List<Change>) -> Result<Option<bool>, AllocError> {
+    if !name_what_is_there(store, changes) || !have_numbers(changes) {
+        return Ok(None);
+    }
+    let left = leave_queues(store, changes);
+    store.commit(changes, MOMENT)?;
+    Ok(Some(left))
+}
+
+fn make_one(store: &mut Store, alloc: Global, asked: &[Asked]) -> Result<Option<bool>, Fail> {
     let changes = changes(alloc, asked)?;
     Ok(make(store, &changes)?)
 }
 
-fn make_all(store: &mut Store, alloc: Global, all: &[Asked]) -> Result<bool, Fail> {
+fn make_all(store: &mut Store, alloc: Global, all: &[Asked]) -> Result<Option<bool>, Fail> {
+    let mut left = true;
     for asked in all.chunks(1) {
-        if !make_one(store, alloc, asked)? {
-            return Ok(false);
-        }
+        let Some(one) = make_one(store, alloc, asked)? else {
+            return Ok(None);
+        };
+        left = left && one;
     }
-    Ok(true)
+    Ok(Some(left))
 }
 
 // ---- the answer
@@ -69,20 +78,21 @@ fn is_told(
     store: &Store,
     alloc: Global,
     changes: &List<Change>,
+    left: bool,
 ) -> Result<&'static str, AllocError> {
     let valid = is_valid(alloc, store.tables())?;
-    if stays_valid(alloc, store, changes)? != valid {
+    if stays_valid(alloc, store, changes, left)? != valid {
         return Ok("wrong");
     }
     Ok(if valid { "fits" } else { "invalid" })
 }
 
 fn told(store: &mut Store, alloc: Global, all: &[Asked]) -> Result<&'static str, Fail> {
-    if !make_all(store, alloc, all)? {
+    let Some(left) = make_all(store, alloc, all)? else {
         return Ok("misnamed");
-    }
+    };
     let changes = changes(alloc, all)?;
-    Ok(is_told(store, alloc, &changes)?)
+    Ok(is_told(store, alloc, &changes, left)?)
 }
 
 fn judged(alloc: Global, all: &[Asked]) -> Result<&'static str, Fail> {
@@ -106,7 +116,7 @@ const BEFORE: [Asked; 5] = [
 
 type Case = (&'static [Asked], &'static str);
 
-const CASES: [Case; 28] = [
+const CASES: [Case; 35] = [
     (&[], "fits"),
     (&[Asked::Message(3, "q", -2)], "fits"),
     (&[Asked::Message(2, "q", 0)], "misnamed"),
@@ -131,6 +141,13 @@ const CASES: [Case; 28] = [
     (&[Asked::Sub("t_e")], "invalid"),
     (&[Asked::Schedule("q", 15)], "fits"),
     (&[Asked::Schedule("q", 16)], "invalid"),
+    (&[Asked::Queue("r", false)], "fits"),
+    (&[Asked::Queue("r", false), Asked::Message(3, "r", -2)], "fits"),
+    (&[Asked::Queue("t_e", true)], "fits"),
+    (&[Asked::Queue("t_e", false)], "invalid"),
+    (&[Asked::Queue("q", true)], "invalid"),
+    (&[Asked::Queue("q", false)], "invalid"),
+    (&[Asked::NoQueue("q"), Asked::Queue("q", false)], "fits"),
     (&[Asked::NoQueue("q")], "fits"),
     (&[Asked::NoQueue("t_e")], "invalid"),
     (&[Asked::Next(3)], "fits"),
