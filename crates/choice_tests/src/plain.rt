@@ -66,10 +66,9 @@ fn is_held(question: &Question<'_>, message: &MsgRow, slot: u32) -> bool {
 }
 
 fn has_removed(question: &Question<'_>, message: &MsgRow, slot: u32) -> bool {
-    question
-        .locks
-        .marks_of(question.actor)
-        .any(|mark| mark.removed && mark.id == message.id && mark.slot == slot)
+    question.locks.marks_of(question.actor).any(|mark| mark.removed
+        && mark.id == message.id
+        && mark.slot == slot)
 }
 
 fn is_available(question: &Question<'_>, message: &MsgRow, slot: u32) -> bool {

@@ -41,7 +41,7 @@ fn chooses_alike<L: Ledger>(
 ) -> bool
     requires sound { let pick = question.now.pick.now in
         AreSound (marks_of question.now.locks.now question.now.actor) pick.queue.now pick.table.now
-            store.now.tables.messages }
+        store.now.tables.messages }
 {
     let Question { locks, actor, pick } = *question;
     let chosen = store.choose(locks, actor, pick, steps);
@@ -69,8 +69,10 @@ fn answers_alike<L: Ledger>(
         actor: 1,
         pick: &pick,
     };
-    Ok(can_choose(&store.tables().messages, locks, 1, &pick)
-        && chooses_alike(store, &question, steps))
+    Ok(
+        can_choose(&store.tables().messages, locks, 1, &pick)
+            && chooses_alike(store, &question, steps),
+    )
 }
 
 fn all_alike<L: Ledger>(

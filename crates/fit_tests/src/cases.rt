@@ -142,7 +142,10 @@ const CASES: [Case; 35] = [
     (&[Asked::Schedule("q", 15)], "fits"),
     (&[Asked::Schedule("q", 16)], "invalid"),
     (&[Asked::Queue("r", false)], "fits"),
-    (&[Asked::Queue("r", false), Asked::Message(3, "r", -2)], "fits"),
+    (
+        &[Asked::Queue("r", false), Asked::Message(3, "r", -2)],
+        "fits",
+    ),
     (&[Asked::Queue("t_e", true)], "fits"),
     (&[Asked::Queue("t_e", false)], "invalid"),
     (&[Asked::Queue("q", true)], "invalid"),

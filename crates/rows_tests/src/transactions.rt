@@ -53,7 +53,11 @@ fn queue(alloc: Global, row: &Delayed) -> Result<QueueRow, Fail> {
     Ok(queue_of(name, table, row.1, row.2))
 }
 
-fn add_queues(queues: &mut NamedList<QueueRow>, alloc: Global, rows: &[Delayed]) -> Result<(), Fail> {
+fn add_queues(
+    queues: &mut NamedList<QueueRow>,
+    alloc: Global,
+    rows: &[Delayed],
+) -> Result<(), Fail> {
     for row in rows {
         queues.append(alloc, queue(alloc, row)?)?;
     }

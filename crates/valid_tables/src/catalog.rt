@@ -88,7 +88,10 @@ fn count_one(counts: &mut BTreeMap<Name, usize>, queue: &Name) -> Result<(), All
     Ok(())
 }
 
-fn counts_of_subs(alloc: Global, subs: &NamedList<SubRow>) -> Result<BTreeMap<Name, usize>, AllocError>
+fn counts_of_subs(
+    alloc: Global,
+    subs: &NamedList<SubRow>,
+) -> Result<BTreeMap<Name, usize>, AllocError>
     ensures { IfOk result (λ counts. (queue : Sequence ℕ)
         → count_at (at_name counts) queue ≡ length (filter (λ s. bytes_eq s.queue queue) subs.now)) }
 {

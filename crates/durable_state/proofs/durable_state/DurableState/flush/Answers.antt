@@ -32,6 +32,7 @@ count-requires g c =
     let most = ap (λ l. l.capacity) c.append.ensures.calls in
     let room = c.self.invariant.room in
     omega (arith, takes, same, most, room)
+
 pub invariant_of-self-2 : goal.invariant_of-self-2
 invariant_of-self-2 g c =
     let w = c.self.inside.state in
@@ -50,6 +51,7 @@ invariant_of-self-2 g c =
       room = flush_room g.D.Disk.seen g.D.Disk.is_image g.D.Disk.calls g.D.Disk.faults w v l m n c.self.invariant.few (ap (λ o. o.items) c.append.ensures.calls) c.count.ensures.home c.count.ensures.away c.count.ensures.calls a
           c.append.ensures.home_writes c.append.ensures.away_writes c.in_ok-append.ensures.home_flushes c.in_ok-append.ensures.away_flushes (promised w) (promised v) takes c.self.invariant.room (omega (arith, most, more));
     }
+
 pub returns-clause-disks : goal.returns-clause-disks
 returns-clause-disks g c =
     let w = c.self.inside.state in

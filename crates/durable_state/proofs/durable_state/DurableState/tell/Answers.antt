@@ -40,7 +40,7 @@ invariant_of-self g c =
     let takes = told_takes c.args.at c.args.number w v c.in-Some.field-0.now there owed c.tell.ensures in
     let still = still_flushed c.args.at c.self.inside.state w now in
     let f = follows_passed g.D.Disk.seen g.D.Disk.is_image g.D.Disk.calls g.D.Disk.faults w v c.self-2.inside.logs c.pass.new.self c.self-2.invariant.few c.self-2.invariant.room takes c.pass.ensures.capacity
-        (c.pass.ensures.enters w.moment) (told_adds c.args.at c.args.number w v c.in-Some.field-0.now there still c.tell.ensures) in
+    (c.pass.ensures.enters w.moment) (told_adds c.args.at c.args.number w v c.in-Some.field-0.now there still c.tell.ensures) in
     record { few = f.few; room = f.room }
 
 pub returns-clause-ok : goal.returns-clause-ok
@@ -63,7 +63,7 @@ returns-clause-disks g c =
     let takes = told_takes c.args.at c.args.number w v c.in-Some.field-0.now there owed c.tell.ensures in
     let still = still_flushed c.args.at c.self.inside.state w now in
     let f = follows_passed g.D.Disk.seen g.D.Disk.is_image g.D.Disk.calls g.D.Disk.faults w v c.self-2.inside.logs c.pass.new.self c.self-2.invariant.few c.self-2.invariant.room takes c.pass.ensures.capacity
-        (c.pass.ensures.enters w.moment) (told_adds c.args.at c.args.number w v c.in-Some.field-0.now there still c.tell.ensures) in
+    (c.pass.ensures.enters w.moment) (told_adds c.args.at c.args.number w v c.in-Some.field-0.now there still c.tell.ensures) in
     goes_on g.D.Disk.seen g.D.Disk.is_image g.D.Disk.calls g.D.Disk.faults c.args.self.now c.flush.new.self (held_of v c.pass.new.self) c.flush.ensures.disks
     (subst (λ (o : Held _). Goes g.D.Disk.seen g.D.Disk.is_image g.D.Disk.calls g.D.Disk.faults o (held_of v c.pass.new.self)) c.self-2.view_is f.goes)
 
@@ -79,5 +79,5 @@ returns-clause-fine g c failed =
     let takes = told_takes c.args.at c.args.number w v c.in-Some.field-0.now there owed c.tell.ensures in
     let still = still_flushed c.args.at c.self.inside.state w now in
     let f = follows_passed g.D.Disk.seen g.D.Disk.is_image g.D.Disk.calls g.D.Disk.faults w v c.self-2.inside.logs c.pass.new.self c.self-2.invariant.few c.self-2.invariant.room takes c.pass.ensures.capacity
-        (c.pass.ensures.enters w.moment) (told_adds c.args.at c.args.number w v c.in-Some.field-0.now there still c.tell.ensures) in
+    (c.pass.ensures.enters w.moment) (told_adds c.args.at c.args.number w v c.in-Some.field-0.now there still c.tell.ensures) in
     absurd (c.in_ok-flush.ensures.unfailed (subst (λ (o : Held _). HasFailed o) c.self-2.view_is (f.fine failed)))

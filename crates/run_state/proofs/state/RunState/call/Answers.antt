@@ -16,6 +16,7 @@ enter_call-requires-clause-early c =
     let is : option_map session_of (Some c.in-Some.session.now) ≡ option_map unmarked (slice_get p.registry.sessions c.args.at) = sym (ap (λ o. option_map session_of (option_copied o)) c.in-Some.is) ∙ c.get.ensures in
     let s = caller_of w c.args.self.now c.args.at c.in-Some.session.now c.args.effect c.self.view_is is c.requires in
     some_of (λ t. t.next + 1 < 2 ^ 32) (slice_get c.args.self.now.sessions c.args.at) s.0 s.1 s.3.early
+
 pub enter_call-requires-clause-later : goal.enter_call-requires-clause-later
 enter_call-requires-clause-later c =
     let p = c.self.inside in
@@ -23,6 +24,7 @@ enter_call-requires-clause-later c =
     let is : option_map session_of (Some c.in-Some.session.now) ≡ option_map unmarked (slice_get p.registry.sessions c.args.at) = sym (ap (λ o. option_map session_of (option_copied o)) c.in-Some.is) ∙ c.get.ensures in
     let s = caller_of w c.args.self.now c.args.at c.in-Some.session.now c.args.effect c.self.view_is is c.requires in
     s.3.later
+
 pub enter_call-requires-clause-free : goal.enter_call-requires-clause-free
 enter_call-requires-clause-free c =
     let p = c.self.inside in
@@ -30,6 +32,7 @@ enter_call-requires-clause-free c =
     let is : option_map session_of (Some c.in-Some.session.now) ≡ option_map unmarked (slice_get p.registry.sessions c.args.at) = sym (ap (λ o. option_map session_of (option_copied o)) c.in-Some.is) ∙ c.get.ensures in
     let s = caller_of w c.args.self.now c.args.at c.in-Some.session.now c.args.effect c.self.view_is is c.requires in
     s.3.free
+
 pub take_ids-requires : goal.take_ids-requires
 take_ids-requires c =
     let p = c.self.inside in
@@ -43,6 +46,7 @@ take_ids-requires c =
     let ids = c.ids_taken-ids.ensures in
     let few = s.3.ids in
     omega (arith, same, here, ids, few)
+
 pub returns-clause-ok : goal.returns-clause-ok
 returns-clause-ok c =
     let p = c.self.inside in

@@ -93,7 +93,7 @@ returns-clause-ok c =
     let is = c.entry-entry.ensures ∙ ap (λ (v : World). entry_of c.args.at v home away step) (sym c.self.view_is) in
     let did = c.in_ok-put_call.ensures in
     let into : x ≡ entered_call c.args.at w home away step call.holdings = entered_held_by w c.args.at home away step call.holdings e put.home put.away put.registry.sessions p.entries.items put.entries.items refl is did.home did.away did.sessions
-        (did.entries ∙ ap (λ es. es ++ e ∷ []) c.reserve.ensures.items) in
+    (did.entries ∙ ap (λ es. es ++ e ∷ []) c.reserve.ensures.items) in
     let at_h = c.sides-home.ensures.home ∙ ap (home_of c.args.db call.commit) c.new.ensures in
     let at_a = c.sides-home.ensures.away ∙ ap (away_of c.args.db call.commit) c.new.ensures in
     let entered = into ∙ ap (λ (v : World). entered_call c.args.at v home away step call.holdings) c.self.view_is
