@@ -1,6 +1,6 @@
 -- Entries with their call numbers, one after another.
 use Rattle.std.proofs.Common.{◌≡◌, ◌<◌, ◌+◌, ◌++◌, ℕ, zero, suc, List, [], ◌∷◌, length, take, Option, Some, None, refl, sym, ap, ◌∙◌, arith, add-one}
-use Rattle.std.specs.Prelude.{All, map, slice_get, slice_set}
+use Rattle.std.specs.Prelude.{All, map, slice_get}
 use Rattle.std.proofs.lemmas.List.Elements.{recursion_from_All, All-from_recursion}
 use Rattle.queue_rows.specs.World.{uncounted}
 use Rattle.queue_rows.specs.declared.history.Entry.{Entry}

@@ -1,11 +1,11 @@
 -- A run goes on with an entry whose commit is queued.
-use Rattle.std.proofs.Common.{◌≡◌, ◌⊎◌, inl, inr, ◌≤◌, ◌-◌, ◌+◌, ◌++◌, ℕ, Bool, true, false, not, if◌then◌else◌, List, [], ◌∷◌, length, take, Option, Some, None, IsSome, refl, sym, ap, ◌∙◌, subst, arith}
+use Rattle.std.proofs.Common.{◌≡◌, ◌⊎◌, inl, inr, ◌≤◌, ◌++◌, ℕ, Bool, true, false, not, if◌then◌else◌, List, [], ◌∷◌, length, Option, Some, None, IsSome, refl, sym, ap, ◌∙◌, subst, arith}
 use Rattle.std.specs.Prelude.{◌==◌}
 use Rattle.std.specs.List.{cons_option}
 use Rattle.std.proofs.lemmas.List.{append-nil}
 use Rattle.aq_base.specs.declared.DbId.{DbId}
-use Rattle.fate_laws.specs.Made.{changes_at, commit_at, commits_of}
-use Rattle.history_fates.specs.Durability.{is_flush, durable}
+use Rattle.fate_laws.specs.Made.{changes_at, commits_of}
+use Rattle.history_fates.specs.Durability.{is_flush}
 use Rattle.queue_rows.specs.declared.tables.Tables.{Tables}
 use Rattle.queue_rows.specs.declared.change.Change.{Change}
 use Rattle.queue_rows.specs.declared.change.Commit.{Commit}
@@ -17,7 +17,7 @@ use Rattle.crash_laws.specs.CrashLaws.{EntryComes}
 use Rattle.crash_laws.proofs.Splitting.{commits-append, durable_same}
 use Rattle.commit_log.specs.Logged.{AreLoggable, Logs}
 use Rattle.commit_log.specs.LogLaws.{LoggableSoFar}
-use Rattle.durable_state.specs.Queueing.{IsQuietEntry, Queues, queueing, queued_of, unqueueing}
+use Rattle.durable_state.specs.Queueing.{Queues, queueing, unqueueing}
 use Rattle.durable_state.specs.Survival.{AreFaults, LogsRun, Stands, SurvivesAt}
 use Rattle.durable_state.proofs.Lists.{if_true, if_false, take_pushed, some_pushed}
 

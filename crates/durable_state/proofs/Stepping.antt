@@ -1,5 +1,5 @@
 -- A run over its disks goes on with a step.
-use Rattle.std.proofs.Common.{◌≡◌, ◌⊎◌, inl, inr, ◌≤◌, ◌-◌, ◌+◌, ◌++◌, ℕ, Bool, true, false, not, List, [], ◌∷◌, length, take, Option, None, IsSome, Result, refl, sym, ap, ◌∙◌, subst, arith}
+use Rattle.std.proofs.Common.{◌≡◌, inl, inr, ◌≤◌, ◌-◌, ◌+◌, ◌++◌, ℕ, true, false, not, List, [], ◌∷◌, length, take, Option, IsSome, Result, refl, sym, ap, ◌∙◌, subst, arith}
 use Rattle.std.specs.Prelude.{◌==◌, Ok, Err, OnOk, OnErr}
 use Rattle.std.proofs.lemmas.List.{length_push}
 use Rattle.aq_base.specs.declared.DbId.{DbId}
@@ -16,9 +16,9 @@ use Rattle.run_state.proofs.Promises.{promised_few}
 use Rattle.durable_state.specs.Counted.{with_calls, counted}
 use Rattle.durable_state.specs.Going.{Goes}
 use Rattle.durable_state.specs.Held.{Held, HasFailed}
-use Rattle.durable_state.specs.Queueing.{Enters, IsQuietEntry, numbers, queued_of, taken_back, unqueueing}
+use Rattle.durable_state.specs.Queueing.{Enters, numbers, queued_of, taken_back, unqueueing}
 use Rattle.durable_state.specs.Survival.{Begun, Survives, SurvivesAt, run_at}
-use Rattle.durable_state.specs.Writing.{Flushes, IsFlushEntry, Writes}
+use Rattle.durable_state.specs.Writing.{Flushes, Writes}
 use Rattle.durable_state.specs.declared.disk_calls.DiskCalls.{DiskCalls}
 use Rattle.durable_state.specs.declared.run_logs.Queued.{Queued}
 use Rattle.durable_state.specs.declared.run_logs.RunLogs.{RunLogs}

@@ -1,6 +1,6 @@
 -- What the steps of a run add to its world.
-use Rattle.std.proofs.Common.{◌≡◌, ◌⊎◌, inl, inr, ◌+◌, ◌++◌, ℕ, Bool, true, false, not, if◌then◌else◌, List, [], ◌∷◌, length, Option, Some, None, refl, sym, ap, ◌∙◌, subst, arith}
-use Rattle.std.specs.Prelude.{◌&&◌, ◌≤◌, IsSome, nat_lt, slice_get, option_map, IfSome, is_some, Result, OnOk, OnErr}
+use Rattle.std.proofs.Common.{◌≡◌, ◌+◌, ◌++◌, ℕ, Bool, true, false, not, if◌then◌else◌, List, [], ◌∷◌, length, Option, Some, None, refl, sym, ap, ◌∙◌, subst, arith}
+use Rattle.std.specs.Prelude.{◌&&◌, ◌≤◌, IsSome, nat_lt, slice_get, option_map, IfSome, is_some, Result, OnOk}
 use Rattle.std.proofs.Math.ListN.{length-set}
 use Rattle.std.proofs.lemmas.Bool.{le-ltb}
 use Rattle.aq_base.specs.declared.DbId.{DbId}
@@ -14,8 +14,8 @@ use Rattle.queue_rows.specs.declared.history.Entry.{Entry}
 use Rattle.queue_rows.specs.declared.history.SlotRef.{SlotRef}
 use Rattle.queue_rows.specs.declared.history.Step.{Step}
 use Rattle.queue_rows.specs.declared.history.Step.TheVariants.{Call, Park, Told, Flush, End, Offer, Arrive, Confirm}
-use Rattle.queue_rows.specs.Turns.{ids_taken, all_durable, called, ended, flushed, is_durable, parked, told}
-use Rattle.queue_rows.specs.Sending.{Sending, offers, arrives, confirms, home_of, away_of, ids_copied, sent, taking_ids, transit_after}
+use Rattle.queue_rows.specs.Turns.{ids_taken, all_durable, ended, flushed, is_durable, parked, told}
+use Rattle.queue_rows.specs.Sending.{offers, arrives, confirms, home_of, away_of, ids_copied, sent, taking_ids, transit_after}
 use Rattle.run_state.specs.CallEffects.{called_with}
 use Rattle.run_state.specs.Promises.{promised}
 use Rattle.run_state.specs.Sessions.{OfSession, gone_in, session_of, unmarked}

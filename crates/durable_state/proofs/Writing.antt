@@ -1,16 +1,15 @@
 -- A run goes on with a flush.
-use Rattle.std.proofs.Common.{◌≡◌, ◌⊎◌, inl, inr, ◌≤◌, ◌++◌, ℕ, true, false, List, [], ◌∷◌, length, take, Option, Some, None, IsSome, Result, refl, sym, ap, ◌∙◌, subst, arith}
+use Rattle.std.proofs.Common.{◌≡◌, ◌⊎◌, inl, inr, ◌≤◌, ◌++◌, ℕ, List, [], ◌∷◌, length, take, Option, Some, None, IsSome, Result, refl, sym, ap, ◌∙◌, subst, arith}
 use Rattle.std.specs.Prelude.{Ok, Err, OnOk, OnErr}
 use Rattle.std.proofs.lemmas.List.{append-nil}
 use Rattle.aq_disk.specs.Causes.{HasCause, Rose}
 use Rattle.aq_disk.specs.Disk.{EachImage, KeepsEarlier}
 use Rattle.fate_laws.specs.Made.{after_commits, commits_of}
-use Rattle.history_fates.specs.Durability.{is_flush, durable, made}
 use Rattle.queue_rows.specs.declared.tables.Tables.{Tables}
 use Rattle.queue_rows.specs.declared.change.Commit.{Commit}
 use Rattle.queue_rows.specs.declared.history.Entry.{Entry}
 use Rattle.redo_journal.specs.Journaled.{Journaled}
-use Rattle.crash_laws.specs.Crash.{Run, Recovers, RecoversEither, SurvivesCrash, calls_in, with_entry}
+use Rattle.crash_laws.specs.Crash.{Run, Recovers, RecoversEither, SurvivesCrash, with_entry}
 use Rattle.crash_laws.specs.CrashLaws.{CallsPass, FlushComes, FlushLeaves}
 use Rattle.crash_laws.proofs.Splitting.{commits-append, durable_all}
 use Rattle.commit_log.specs.Logged.{AreLoggable, Logs}

@@ -1,5 +1,5 @@
 -- What a flush makes of the logs.
-use Rattle.std.specs.Prelude.{◌≡◌, ◌++◌, ℕ, List, [], ◌∷◌, true, Option, None, IsSome}
+use Rattle.std.specs.Prelude.{◌≡◌, ℕ, List, [], true, Option, None}
 use Rattle.aq_base.specs.declared.DbId.{DbId}
 use Rattle.fate_laws.specs.Made.{changes_at}
 use Rattle.history_fates.specs.Durability.{is_flush}

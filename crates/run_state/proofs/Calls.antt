@@ -19,7 +19,7 @@ use Rattle.run_state.specs.Sessions.{session_of, unmarked, changed_at, after_cal
 use Rattle.run_state.specs.declared.call_effect.CallEffect.{CallEffect}
 use Rattle.run_state.specs.declared.call_effect.Holdings.{Holdings}
 use Rattle.run_state.specs.declared.call_effect.NewPositions.{NewPositions}
-use Rattle.run_state.proofs.Results.{of_some, some_of}
+use Rattle.run_state.proofs.Results.{of_some}
 use Rattle.run_state.proofs.Changing.{changed_there, got_changed}
 use Rattle.run_state.proofs.Leaving.{standing_is}
 use Rattle.run_state.proofs.ShownSessions.{changed_twice}

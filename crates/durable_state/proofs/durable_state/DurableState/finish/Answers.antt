@@ -1,4 +1,4 @@
-use Rattle.std.proofs.Common.{◌≡◌, List, map, sym, ap, ◌∙◌}
+use Rattle.std.proofs.Common.{List, map, sym, ap, ◌∙◌}
 use Rattle.queue_rows.specs.World.{uncounted}
 use Rattle.queue_rows.specs.declared.history.Entry.{Entry}
 use Rattle.durable_state.specs.Counted.{counted}

@@ -1,4 +1,4 @@
-use Rattle.std.proofs.Common.{◌≡◌, List, [], length, sym, ap, ◌∙◌, arith}
+use Rattle.std.proofs.Common.{◌≡◌, List, length, sym, ap, ◌∙◌, arith}
 use Rattle.queue_rows.specs.declared.history.Entry.{Entry}
 use Rattle.run_state.specs.Promises.{promised}
 use Rattle.run_state.proofs.Promises.{promised_opened}

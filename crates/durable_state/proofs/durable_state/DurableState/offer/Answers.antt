@@ -1,7 +1,6 @@
 use Rattle.std.proofs.Common.{refl, [], subst}
 use Rattle.durable_state.specs.Going.{Goes}
 use Rattle.durable_state.specs.Held.{Held}
-use Rattle.durable_state.specs.Queueing.{queued_of}
 use Rattle.durable_state.proofs.Stepping.{follows, held_of}
 use Rattle.durable_state.proofs.Worlds.{offered_adds}
 use Rattle.durable_state.proofs.durable_state.DurableState.offer.Goals as goal

@@ -3,7 +3,6 @@ use Rattle.std.specs.Prelude.{option_copied, option_map, is_some, slice_get}
 use Rattle.run_state.specs.Sessions.{session_of, unmarked}
 use Rattle.durable_state.specs.Going.{Goes}
 use Rattle.durable_state.specs.Held.{Held}
-use Rattle.durable_state.specs.Queueing.{queued_of}
 use Rattle.durable_state.proofs.Stepping.{follows, held_of}
 use Rattle.durable_state.proofs.Worlds.{parked_adds}
 use Rattle.durable_state.proofs.durable_state.DurableState.park.Goals as goal

@@ -1,4 +1,4 @@
-use Rattle.std.proofs.Common.{◌≡◌, ◌≤◌, ◌+◌, [], Some, IsSome, sym, ap, ◌∙◌, subst, arith}
+use Rattle.std.proofs.Common.{◌≡◌, Some, sym, ap, ◌∙◌, subst, arith}
 use Rattle.std.specs.Prelude.{option_copied, option_map, slice_get}
 use Rattle.queue_rows.specs.Turns.{flushed}
 use Rattle.run_state.specs.Sessions.{session_of, unmarked}

@@ -1,4 +1,4 @@
-use Rattle.std.proofs.Common.{◌≡◌, ◌+◌, ◌<◌, ◌^◌, Some, sym, ap, subst, ◌∙◌, option_map, arith}
+use Rattle.std.proofs.Common.{◌≡◌, ◌+◌, ◌<◌, ◌^◌, Some, sym, ap, ◌∙◌, option_map, arith}
 use Rattle.std.specs.Prelude.{option_copied, slice_get}
 use Rattle.queue_rows.specs.World.{database_at}
 use Rattle.run_state.specs.CallEffects.{called_with}

@@ -1,6 +1,5 @@
-use Rattle.std.proofs.Common.{◌≡◌, ◌+◌, ◌<◌, ◌^◌, length, refl, ap, sym, subst, ◌∙◌, arith}
+use Rattle.std.proofs.Common.{◌≡◌, ◌+◌, ◌<◌, ◌^◌, length, refl, ap, sym, subst, ◌∙◌}
 use Rattle.std.specs.Prelude.{option_map, map, slice_get, All, IfSome, ◌++◌, ◌∷◌, []}
-use Rattle.queue_rows.specs.Session.{Session}
 use Rattle.queue_rows.specs.World.{uncounted, World, entry_of}
 use Rattle.queue_rows.specs.declared.history.Entry.{Entry}
 use Rattle.queue_rows.specs.declared.history.Step.TheVariants.{Call}
