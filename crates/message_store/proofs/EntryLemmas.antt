@@ -1,4 +1,4 @@
--- Messages under stamps: what edits of both lists make of the entries, and what becomes of an index of their ready slots.
+-- Messages under stamps: what edits of both lists make of the entries, and what becomes of an index of their slots.
 use Rattle.std.proofs.Common.{◌≡◌, ℕ, zero, suc, ◌==◌, ◌<◌, List, [], ◌∷◌, ◌++◌, ◌+◌, length, take, Bool, true, false, cond, Option, Some, None, nat_lt, refl, sym, ap, ◌∙◌, subst, arith, inl, inr, ◌≤◌}
 use Rattle.std.specs.Prelude.{find, insert, option_and_then, option_map, position, remove, slice_get, slice_set, IfSome}
 use Rattle.std.specs.List.{AllByRecursion, position_or_len}
@@ -9,12 +9,11 @@ use Rattle.std.proofs.lemmas.List.{append_assoc, append-nil, length-append, leng
 use Rattle.std.proofs.lemmas.Option.{get_or_from_slice_get, none-some, slice_get_past, slice_get_within}
 use Rattle.queue_rows.specs.declared.rows.MsgRow.{MsgRow}
 use Rattle.choice_laws.specs.Entries.{Entry, AreAbove, AreRising, message_at, messages_of}
-use Rattle.message_choice.specs.Indexed.{IndexesReady}
 use Rattle.ready_slots.specs.Edits.{entry}
 use Rattle.ready_slots.proofs.Inserting.{replaced}
 use Rattle.sort_index.specs.declared.group.Group.{Group}
 use Rattle.message_store.specs.Messages.{ids_of}
-use Rattle.message_store.specs.Stamped.{AreStamps, Rise, entries_of, IfReady, Forgets, Notes}
+use Rattle.message_store.specs.Stamped.{AreStamps, Rise, entries_of, IfIndexed, Forgets, Notes}
 
 -- ---- the entries
 
@@ -93,43 +92,45 @@ message_is ss ms stamp long place is =
         let least : length ss ≤ n = ltb-false n (length ss) past in
         sym (slice_get_past ms n (omega (arith, long, least)))
 
--- ---- edits, and the index of ready slots
+-- ---- edits, and an index of slots
 
 -- there is a stamp for each message
 pub as_long : (ids ss : List ℕ) (ms : List MsgRow) → ids ≡ ids_of ms → AreStamps (length ids) ss → length ss ≡ length ms
 as_long ids ss ms is stamps = stamps.long ∙ ap length is ∙ length-map ms (λ m. m.id)
 
--- the message at an index goes
-pub index_removed : (ss : List ℕ) (ms : List MsgRow) (at s : ℕ) (m : MsgRow) (before after : Option (List Group))
-    → length ss ≡ length ms → Rise ss → slice_get ss at ≡ Some s → slice_get ms at ≡ Some m
-    → Forgets s m before after → IfReady (entries_of ss ms) before → IfReady (entries_of (remove ss at) (remove ms at)) after
-index_removed ss ms at s m before after long rise stamp there forgets ready =
-    subst (λ (es : List Entry). IfReady es after) (entry_removed ss ms at long)
-    (forgets (entries_of ss ms) at (entries_rise ss ms rise) (entry_there ss ms at s m stamp there) ready)
+-- whichever rows an index of messages has
+module _ (Indexes : List Entry → List Group → Type 0) where
+  -- the message at an index goes
+  pub index_removed : (ss : List ℕ) (ms : List MsgRow) (at s : ℕ) (m : MsgRow) (before after : Option (List Group))
+      → length ss ≡ length ms → Rise ss → slice_get ss at ≡ Some s → slice_get ms at ≡ Some m
+      → Forgets Indexes s m before after → IfIndexed Indexes (entries_of ss ms) before → IfIndexed Indexes (entries_of (remove ss at) (remove ms at)) after
+  index_removed ss ms at s m before after long rise stamp there forgets ready =
+      subst (λ (es : List Entry). IfIndexed Indexes es after) (entry_removed ss ms at long)
+      (forgets (entries_of ss ms) at (entries_rise ss ms rise) (entry_there ss ms at s m stamp there) ready)
 
--- the message at an index is another one
-pub index_changed : (ss : List ℕ) (ms : List MsgRow) (at s : ℕ) (m n : MsgRow) (before between after : Option (List Group))
-    → Rise ss → slice_get ss at ≡ Some s → slice_get ms at ≡ Some m
-    → Forgets s m before between → Notes s n between after
-    → IfReady (entries_of ss ms) before → IfReady (entries_of ss (slice_set ms at n)) after
-index_changed ss ms at s m n before between after rise stamp there forgets notes ready =
-    let es = entries_of ss ms in
-    let one = entry_there ss ms at s m stamp there in
-    let same : insert (remove es at) at (entry s n) ≡ entries_of ss (slice_set ms at n) = replaced es at (entry s m) (entry s n) one ∙ entry_set ss ms at s n stamp in
-    let left = forgets es at (entries_rise ss ms rise) one ready in
-    let rises : AreRising (insert (remove es at) at (entry s n)) = subst AreRising (sym same) (entries_rise ss (slice_set ms at n) rise) in
-    subst (λ (es : List Entry). IfReady es after) same (notes (remove es at) at rises left)
+  -- the message at an index is another one
+  pub index_changed : (ss : List ℕ) (ms : List MsgRow) (at s : ℕ) (m n : MsgRow) (before between after : Option (List Group))
+      → Rise ss → slice_get ss at ≡ Some s → slice_get ms at ≡ Some m
+      → Forgets Indexes s m before between → Notes Indexes s n between after
+      → IfIndexed Indexes (entries_of ss ms) before → IfIndexed Indexes (entries_of ss (slice_set ms at n)) after
+  index_changed ss ms at s m n before between after rise stamp there forgets notes ready =
+      let es = entries_of ss ms in
+      let one = entry_there ss ms at s m stamp there in
+      let same : insert (remove es at) at (entry s n) ≡ entries_of ss (slice_set ms at n) = replaced es at (entry s m) (entry s n) one ∙ entry_set ss ms at s n stamp in
+      let left = forgets es at (entries_rise ss ms rise) one ready in
+      let rises : AreRising (insert (remove es at) at (entry s n)) = subst AreRising (sym same) (entries_rise ss (slice_set ms at n) rise) in
+      subst (λ (es : List Entry). IfIndexed Indexes es after) same (notes (remove es at) at rises left)
 
--- a message comes last
-pub index_pushed : (ss now : List ℕ) (ms : List MsgRow) (s : ℕ) (m : MsgRow) (before after : Option (List Group))
-    → length ss ≡ length ms → now ≡ ss ++ s ∷ [] → Rise now
-    → Notes s m before after → IfReady (entries_of ss ms) before → IfReady (entries_of now (ms ++ m ∷ [])) after
-index_pushed ss now ms s m before after long is rise notes ready =
-    let es = entries_of ss ms in
-    let same : insert es (length es) (entry s m) ≡ entries_of now (ms ++ m ∷ []) =
-    insert_end es (entry s m) ∙ sym (entry_last ss ms s m long) ∙ ap (λ stamps. entries_of stamps (ms ++ m ∷ [])) (sym is) in
-    let rises : AreRising (insert es (length es) (entry s m)) = subst AreRising (sym same) (entries_rise now (ms ++ m ∷ []) rise) in
-    subst (λ (es : List Entry). IfReady es after) same (notes es (length es) rises ready)
+  -- a message comes last
+  pub index_pushed : (ss now : List ℕ) (ms : List MsgRow) (s : ℕ) (m : MsgRow) (before after : Option (List Group))
+      → length ss ≡ length ms → now ≡ ss ++ s ∷ [] → Rise now
+      → Notes Indexes s m before after → IfIndexed Indexes (entries_of ss ms) before → IfIndexed Indexes (entries_of now (ms ++ m ∷ [])) after
+  index_pushed ss now ms s m before after long is rise notes ready =
+      let es = entries_of ss ms in
+      let same : insert es (length es) (entry s m) ≡ entries_of now (ms ++ m ∷ []) =
+      insert_end es (entry s m) ∙ sym (entry_last ss ms s m long) ∙ ap (λ stamps. entries_of stamps (ms ++ m ∷ [])) (sym is) in
+      let rises : AreRising (insert es (length es) (entry s m)) = subst AreRising (sym same) (entries_rise now (ms ++ m ∷ []) rise) in
+      subst (λ (es : List Entry). IfIndexed Indexes es after) same (notes es (length es) rises ready)
 
 -- ---- an index of all
 
@@ -148,14 +149,15 @@ take_next xs at s there =
     let next : at + 1 ≡ suc at = omega arith in
     ap (λ k. take k xs) next ∙ take-suc xs at s (slice_get_within xs at s there) ∙ ap (λ x. take at xs ++ x ∷ []) (get_or_from_slice_get xs at s s there)
 
--- of the stamps and messages that were gone over, those with one more
-pub index_grown : (all : List ℕ) (ms : List MsgRow) (done : List MsgRow) (at s : ℕ) (m : MsgRow) (before after : Option (List Group))
-    → Rise all → at ≡ length done → slice_get all at ≡ Some s → Notes s m before after
-    → IfReady (entries_of (take at all) done) before → IfReady (entries_of (take (at + 1) all) (done ++ m ∷ [])) after
-index_grown all ms done at s m before after rise count there notes ready =
-    let within : at < length all = slice_get_within all at s there in
-    let long : length (take at all) ≡ length done = length-take-le at all (omega (arith, within)) ∙ count in
-    index_pushed (take at all) (take (at + 1) all) done s m before after long (take_next all at s there) (rise_taken (at + 1) all rise) notes ready
+module _ (Indexes : List Entry → List Group → Type 0) where
+  -- of the stamps and messages that were gone over, those with one more
+  pub index_grown : (all : List ℕ) (ms : List MsgRow) (done : List MsgRow) (at s : ℕ) (m : MsgRow) (before after : Option (List Group))
+      → Rise all → at ≡ length done → slice_get all at ≡ Some s → Notes Indexes s m before after
+      → IfIndexed Indexes (entries_of (take at all) done) before → IfIndexed Indexes (entries_of (take (at + 1) all) (done ++ m ∷ [])) after
+  index_grown all ms done at s m before after rise count there notes ready =
+      let within : at < length all = slice_get_within all at s there in
+      let long : length (take at all) ≡ length done = length-take-le at all (omega (arith, within)) ∙ count in
+      index_pushed Indexes (take at all) (take (at + 1) all) done s m before after long (take_next all at s there) (rise_taken (at + 1) all rise) notes ready
 
 pub split_on : (m : MsgRow) (done rest more all : List MsgRow) → more ≡ m ∷ rest → done ++ more ≡ all → (done ++ m ∷ []) ++ rest ≡ all
 split_on m done rest more all steps so = append_assoc done (m ∷ []) rest ∙ ap (λ ms. done ++ ms) (sym steps) ∙ so
@@ -170,11 +172,12 @@ stamp_left count at m done rest more all steps so is long =
     let left = ap length steps in
     omega (arith, both, left, ap length so, is, long)
 
--- at the end all were gone over
-pub all_gone : (ss : List ℕ) (at : ℕ) (done more ms : List MsgRow) (index : Option (List Group)) → more ≡ [] → done ++ more ≡ ms → at ≡ length done → length ss ≡ length ms
-    → IfReady (entries_of (take at ss) done) index → IfReady (entries_of ss ms) index
-all_gone ss at done more ms index none so is long ready =
-    let same : done ≡ ms = sym (append-nil done) ∙ ap (λ ms. done ++ ms) (sym none) ∙ so in
-    let count : at ≡ length ss = is ∙ ap length same ∙ sym long in
-    let stamps : take at ss ≡ ss = ap (λ k. take k ss) count ∙ take-length ss in
-    subst (λ (es : List Entry). IfReady es index) (λ i. entries_of (stamps i) (same i)) ready
+module _ (Indexes : List Entry → List Group → Type 0) where
+  -- at the end all were gone over
+  pub all_gone : (ss : List ℕ) (at : ℕ) (done more ms : List MsgRow) (index : Option (List Group)) → more ≡ [] → done ++ more ≡ ms → at ≡ length done → length ss ≡ length ms
+      → IfIndexed Indexes (entries_of (take at ss) done) index → IfIndexed Indexes (entries_of ss ms) index
+  all_gone ss at done more ms index none so is long ready =
+      let same : done ≡ ms = sym (append-nil done) ∙ ap (λ ms. done ++ ms) (sym none) ∙ so in
+      let count : at ≡ length ss = is ∙ ap length same ∙ sym long in
+      let stamps : take at ss ≡ ss = ap (λ k. take k ss) count ∙ take-length ss in
+      subst (λ (es : List Entry). IfIndexed Indexes es index) (λ i. entries_of (stamps i) (same i)) ready

@@ -1,4 +1,4 @@
--- What edits of messages and of the index of their ready slots leave, as the edits are made.
+-- What edits of messages and of an index of their slots leave, as the edits are made.
 use Rattle.std.proofs.Common.{◌≡◌, ◌≢◌, ◌==◌, ◌+◌, ℕ, zero, suc, ◌<◌, ◌≤◌, All, Bool, true, false, cond, List, [], ◌∷◌, ◌++◌, length, Option, Some, None, refl, sym, ap, ◌∙◌, subst, arith, inl, inr, eq-eqb}
 use Rattle.std.specs.Prelude.{count_by, insert, remove, slice_get, slice_set, IfSome}
 use Rattle.std.specs.List.{AllByRecursion}
@@ -14,10 +14,11 @@ use Rattle.std.specs.Option.{option_map_or}
 use Rattle.std.proofs.lemmas.Option.{slice_get-get_or, none-some, slice_get_past, slice_get_within}
 use Rattle.queue_rows.specs.declared.rows.MsgRow.{MsgRow}
 use Rattle.queue_rows.proofs.Sessions.{get_set-same}
+use Rattle.choice_laws.specs.Entries.{Entry}
 use Rattle.row_tree.specs.Edits.{edit_at}
 use Rattle.sort_index.specs.declared.group.Group.{Group}
 use Rattle.message_store.specs.Messages.{ids_of}
-use Rattle.message_store.specs.Stamped.{AreStamps, entries_of, IfReady, Forgets, Notes}
+use Rattle.message_store.specs.Stamped.{AreStamps, entries_of, IfIndexed, Forgets, Notes}
 use Rattle.message_store.proofs.EntryLemmas.{as_long, index_changed, index_pushed, index_removed}
 
 none_within : (ms : List MsgRow) (at : ℕ) → slice_get ms at ≡ None → at < length ms → ⊥
@@ -37,34 +38,36 @@ message_there ms at within = by (slice_get ms at) refl
     by None is = absurd (none_within ms at is within)
     by (Some m) is = record { message = m; there = is }
 
-pub edited : (ids ss : List ℕ) (ms now : List MsgRow) (at s : ℕ) (change : MsgRow → MsgRow) (before between after : Option (List Group))
-    → AreStamps (length ids) ss → at < length ms → slice_get ss at ≡ Some s → now ≡ edit_at ms at change
-    → IfSome (slice_get ms at) (λ m. Forgets s m before between) → IfSome (slice_get now at) (λ m. Notes s m between after)
-    → IfReady (entries_of ss ms) before → IfReady (entries_of ss now) after
-edited ids ss ms now at s change before between after stamps within stamp is forgets notes ready =
-    let own = message_there ms at within in
-    let n = change own.message in
-    let set : now ≡ slice_set ms at n = is ∙ ap (λ o. option_map_or (λ row. slice_set ms at (change row)) o ms) own.there in
-    let changed : slice_get now at ≡ Some n = ap (λ rows. slice_get rows at) set ∙ get_set-same ms at n within in
-    let gone = subst (λ (o : Option MsgRow). IfSome o (λ m. Forgets s m before between)) own.there forgets in
-    let come = subst (λ (o : Option MsgRow). IfSome o (λ m. Notes s m between after)) changed notes in
-    subst (λ (rows : List MsgRow). IfReady (entries_of ss rows) after) (sym set)
-    (index_changed ss ms at s own.message n before between after stamps.rise stamp own.there gone come ready)
+-- an index of slots, whichever rows it has
+module _ (Indexes : List Entry → List Group → Type 0) where
+  pub edited : (ids ss : List ℕ) (ms now : List MsgRow) (at s : ℕ) (change : MsgRow → MsgRow) (before between after : Option (List Group))
+      → AreStamps (length ids) ss → at < length ms → slice_get ss at ≡ Some s → now ≡ edit_at ms at change
+      → IfSome (slice_get ms at) (λ m. Forgets Indexes s m before between) → IfSome (slice_get now at) (λ m. Notes Indexes s m between after)
+      → IfIndexed Indexes (entries_of ss ms) before → IfIndexed Indexes (entries_of ss now) after
+  edited ids ss ms now at s change before between after stamps within stamp is forgets notes ready =
+      let own = message_there ms at within in
+      let n = change own.message in
+      let set : now ≡ slice_set ms at n = is ∙ ap (λ o. option_map_or (λ row. slice_set ms at (change row)) o ms) own.there in
+      let changed : slice_get now at ≡ Some n = ap (λ rows. slice_get rows at) set ∙ get_set-same ms at n within in
+      let gone = subst (λ (o : Option MsgRow). IfSome o (λ m. Forgets Indexes s m before between)) own.there forgets in
+      let come = subst (λ (o : Option MsgRow). IfSome o (λ m. Notes Indexes s m between after)) changed notes in
+      subst (λ (rows : List MsgRow). IfIndexed Indexes (entries_of ss rows) after) (sym set)
+      (index_changed Indexes ss ms at s own.message n before between after stamps.rise stamp own.there gone come ready)
 
-pub taken : (ids ss : List ℕ) (ms : List MsgRow) (at s : ℕ) (before after : Option (List Group))
-    → ids ≡ ids_of ms → AreStamps (length ids) ss → at < length ms → slice_get ss at ≡ Some s
-    → IfSome (slice_get ms at) (λ m. Forgets s m before after)
-    → IfReady (entries_of ss ms) before → IfReady (entries_of (remove ss at) (remove ms at)) after
-taken ids ss ms at s before after is stamps within stamp forgets ready =
-    let own = message_there ms at within in
-    let gone = subst (λ (o : Option MsgRow). IfSome o (λ m. Forgets s m before after)) own.there forgets in
-    index_removed ss ms at s own.message before after (as_long ids ss ms is stamps) stamps.rise stamp own.there gone ready
+  pub taken : (ids ss : List ℕ) (ms : List MsgRow) (at s : ℕ) (before after : Option (List Group))
+      → ids ≡ ids_of ms → AreStamps (length ids) ss → at < length ms → slice_get ss at ≡ Some s
+      → IfSome (slice_get ms at) (λ m. Forgets Indexes s m before after)
+      → IfIndexed Indexes (entries_of ss ms) before → IfIndexed Indexes (entries_of (remove ss at) (remove ms at)) after
+  taken ids ss ms at s before after is stamps within stamp forgets ready =
+      let own = message_there ms at within in
+      let gone = subst (λ (o : Option MsgRow). IfSome o (λ m. Forgets Indexes s m before after)) own.there forgets in
+      index_removed Indexes ss ms at s own.message before after (as_long ids ss ms is stamps) stamps.rise stamp own.there gone ready
 
-pub pushed : (ids ss now_ids now_ss : List ℕ) (ms : List MsgRow) (s : ℕ) (m : MsgRow) (before after : Option (List Group))
-    → ids ≡ ids_of ms → AreStamps (length ids) ss → now_ss ≡ ss ++ s ∷ [] → AreStamps (length now_ids) now_ss
-    → Notes s m before after → IfReady (entries_of ss ms) before → IfReady (entries_of now_ss (ms ++ m ∷ [])) after
-pushed ids ss now_ids now_ss ms s m before after is stamps more now_stamps notes ready =
-    index_pushed ss now_ss ms s m before after (as_long ids ss ms is stamps) more now_stamps.rise notes ready
+  pub pushed : (ids ss now_ids now_ss : List ℕ) (ms : List MsgRow) (s : ℕ) (m : MsgRow) (before after : Option (List Group))
+      → ids ≡ ids_of ms → AreStamps (length ids) ss → now_ss ≡ ss ++ s ∷ [] → AreStamps (length now_ids) now_ss
+      → Notes Indexes s m before after → IfIndexed Indexes (entries_of ss ms) before → IfIndexed Indexes (entries_of now_ss (ms ++ m ∷ [])) after
+  pushed ids ss now_ids now_ss ms s m before after is stamps more now_stamps notes ready =
+      index_pushed Indexes ss now_ss ms s m before after (as_long ids ss ms is stamps) more now_stamps.rise notes ready
 
 -- ---- what is due
 

@@ -1,10 +1,12 @@
--- Messages under the stamps of an index, and the index of their ready slots, where it is kept.
+-- Messages under the stamps of an index, and indexes of their slots, each where it is kept: of those that are ready, and of those that
+-- are ready and go to the other database.
 use Rattle.std.specs.Prelude.{◌≡◌, ◌<◌, ℕ, List, [], ◌∷◌, Option, Some, IfSome, insert, length, remove, slice_get}
 use Rattle.std.specs.List.{AllByRecursion}
 use Rattle.queue_rows.specs.declared.rows.MsgRow.{MsgRow}
 use Rattle.choice_laws.specs.Entries.{Entry, AreRising}
 use Rattle.message_choice.specs.Indexed.{IndexesReady}
 use Rattle.ready_slots.specs.Edits.{entry}
+use Rattle.remote_slots.specs.Remote.{IndexesRemote}
 use Rattle.sort_index.specs.declared.group.Group.{Group}
 
 -- each number is less than all that follow it
@@ -23,20 +25,26 @@ entries_of [] messages = []
 entries_of (stamp ∷ stamps) [] = []
 entries_of (stamp ∷ stamps) (m ∷ messages) = entry stamp m ∷ entries_of stamps messages
 
--- where there is an index, it is that of the messages
+-- where there is an index, it is that of the messages, whichever rows an index of messages has
+abbrev pub IfIndexed : (List Entry → List Group → Type 0) → List Entry → Option (List Group) → Type 0
+IfIndexed Indexes entries index = IfSome index (Indexes entries)
+
 abbrev pub IfReady : List Entry → Option (List Group) → Type 0
-IfReady entries index = IfSome index (IndexesReady entries)
+IfReady entries index = IfIndexed IndexesReady entries index
+
+abbrev pub IfRemote : List Entry → Option (List Group) → Type 0
+IfRemote entries index = IfIndexed IndexesRemote entries index
 
 -- ---- edits of it
 
 -- the message goes that stood under the stamp
-abbrev pub Forgets : ℕ → MsgRow → (before after : Option (List Group)) → Type 0
-Forgets stamp m before after = (entries : List Entry) (at : ℕ)
+abbrev pub Forgets : (List Entry → List Group → Type 0) → ℕ → MsgRow → (before after : Option (List Group)) → Type 0
+Forgets Indexes stamp m before after = (entries : List Entry) (at : ℕ)
     → AreRising entries → slice_get entries at ≡ Some (entry stamp m)
-    → IfReady entries before → IfReady (remove entries at) after
+    → IfIndexed Indexes entries before → IfIndexed Indexes (remove entries at) after
 
 -- the message comes under the stamp, wherever stamps rise with it
-abbrev pub Notes : ℕ → MsgRow → (before after : Option (List Group)) → Type 0
-Notes stamp m before after = (entries : List Entry) (at : ℕ)
+abbrev pub Notes : (List Entry → List Group → Type 0) → ℕ → MsgRow → (before after : Option (List Group)) → Type 0
+Notes Indexes stamp m before after = (entries : List Entry) (at : ℕ)
     → AreRising (insert entries at (entry stamp m))
-    → IfReady entries before → IfReady (insert entries at (entry stamp m)) after
+    → IfIndexed Indexes entries before → IfIndexed Indexes (insert entries at (entry stamp m)) after

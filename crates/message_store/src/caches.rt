@@ -4,13 +4,16 @@ ghost use Rattle.message_store.specs.Caches.{AreOf};
 
 use crate::due_cache::DueCache;
 use crate::ready_cache::ReadyCache;
+use crate::remote_cache::RemoteCache;
 use std::alloc::Global;
 
-/// The index of ready slots and that of what is due, each where it is kept.
+/// The indexes of ready slots, of those that go to the other database, and of what is due, each where it is kept.
 #[derive(Drop)]
 pub(crate) struct Caches {
     /// The index of ready slots.
     pub(crate) ready: ReadyCache,
+    /// The index of ready slots that go to the other database.
+    pub(crate) remote: RemoteCache,
     /// The index of what is due.
     pub(crate) due: DueCache,
 }
@@ -22,6 +25,7 @@ impl Caches {
     {
         Caches {
             ready: ReadyCache::new(alloc),
+            remote: RemoteCache::new(alloc),
             due: DueCache::new(alloc),
         }
     }

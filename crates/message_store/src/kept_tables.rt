@@ -6,7 +6,7 @@ ghost use Rattle.queue_rows.specs.Tables.{empty_tables};
 ghost use Rattle.message_store.specs.Caches.{AreOf};
 ghost use Rattle.message_store.specs.Open.{held, room_of};
 ghost use Rattle.message_store.specs.Prepared.{AreReady};
-ghost use Rattle.message_store.specs.Stamped.{AreStamps, IfReady, entries_of};
+ghost use Rattle.message_store.specs.Stamped.{AreStamps, IfReady, IfRemote, entries_of};
 
 use crate::beside::Beside;
 use crate::caches::Caches;
@@ -15,6 +15,7 @@ use crate::message_index::MessageIndex;
 use crate::numbers::check_numbers;
 use crate::open::OpenTables;
 use crate::ready_cache::ReadyCache;
+use crate::remote_cache::RemoteCache;
 use crate::slot_rooms::slot_rooms;
 use message_choice::StampedMessages;
 use queue_rows::{Commit, MsgRow, Tables};
@@ -105,6 +106,13 @@ impl KeptTables {
         ensures { IfReady (entries_of self.now.stamps self.now.tables.messages) result.slots }
     {
         ReadyCache::of(&self.tables.messages, &self.beside.index, alloc)
+    }
+
+    /// The index of the ready slots that go to the other database, where there is memory for it.
+    pub(crate) fn remote(&self, alloc: Global) -> RemoteCache
+        ensures { IfRemote (entries_of self.now.stamps self.now.tables.messages) result.slots }
+    {
+        RemoteCache::of(&self.tables.messages, &self.beside.index, alloc)
     }
 
     /// The tables, opened, with the indexes of their messages. It takes no memory.

@@ -20,6 +20,7 @@ mod open_named;
 mod open_rows;
 mod prepared_store;
 mod ready_cache;
+mod remote_cache;
 mod room;
 mod row_places;
 mod row_room;

@@ -8,6 +8,8 @@ ghost use Rattle.message_store.specs.Rows.{filtered, without_first};
 ghost use Rattle.message_store.specs.Caches.{AreOf};
 ghost use Rattle.message_store.specs.DueKept.{Gains, IfDue, keeps_in};
 ghost use Rattle.message_store.specs.Stamped.{AreStamps, Forgets, Notes};
+ghost use Rattle.message_choice.specs.Indexed.{IndexesReady};
+ghost use Rattle.remote_slots.specs.Remote.{IndexesRemote};
 ghost use Rattle.row_tree.specs.Edits.{edit_at};
 
 use crate::caches::Caches;
@@ -16,15 +18,16 @@ use crate::edits::{MoveTo, Retry, SetState};
 use crate::find::find;
 use crate::message_index::MessageIndex;
 use crate::ready_cache::ReadyCache;
+use crate::remote_cache::RemoteCache;
 use crate::row_room::RowRoom;
 use payload_records::Name;
 use queue_rows::{MsgRow, SlotRow, SlotState};
 use row_tree::{Edit, Spare, Tree};
 use std::marker::Model;
 
-/// Messages, with memory for so many more, and indexes of them: by their numbers, of their ready slots, and of what is due.
-/// Contracts see the messages and that count. A method that needs no memory lets the indexes of ready slots and of what is due go where
-/// it finds none for their rows.
+/// Messages, with memory for so many more, and indexes of them: by their numbers, of their ready slots, of those that go to the other
+/// database, and of what is due. Contracts see the messages and that count. A method that needs no memory lets an index other than that
+/// by numbers go where it finds none for its rows.
 #[derive(Drop)]
 pub(crate) struct OpenMessages {
     rows: Tree<MsgRow>,
@@ -52,7 +55,8 @@ impl Model for OpenMessages {
 
 // The rows of the message at an index, which stands under the stamp, go.
 fn take_rows(ready: &mut ReadyCache, rows: &Tree<MsgRow>, at: usize, stamp: u64)
-    ensures { IfSome (slice_get rows.now at) (λ m. Forgets stamp m ready.old.slots ready.new.slots) }
+    ensures { IfSome (slice_get rows.now at)
+        (λ m. Forgets IndexesReady stamp m ready.old.slots ready.new.slots) }
 {
     if let Some(message) = rows.get(at) {
         ready.remove(stamp, message);
@@ -61,10 +65,31 @@ fn take_rows(ready: &mut ReadyCache, rows: &Tree<MsgRow>, at: usize, stamp: u64)
 
 // The rows of the message at an index, which stands under the stamp, come.
 fn put_rows(ready: &mut ReadyCache, rows: &Tree<MsgRow>, at: usize, stamp: u64)
-    ensures { IfSome (slice_get rows.now at) (λ m. Notes stamp m ready.old.slots ready.new.slots) }
+    ensures { IfSome (slice_get rows.now at)
+        (λ m. Notes IndexesReady stamp m ready.old.slots ready.new.slots) }
 {
     if let Some(message) = rows.get(at) {
         ready.put(stamp, message);
+    }
+}
+
+// The same in the index of slots that go to the other database.
+fn take_remote(remote: &mut RemoteCache, rows: &Tree<MsgRow>, at: usize, stamp: u64)
+    ensures { IfSome (slice_get rows.now at)
+        (λ m. Forgets IndexesRemote stamp m remote.old.slots remote.new.slots) }
+{
+    if let Some(message) = rows.get(at) {
+        remote.remove(stamp, message);
+    }
+}
+
+// The same in the index of slots that go to the other database.
+fn put_remote(remote: &mut RemoteCache, rows: &Tree<MsgRow>, at: usize, stamp: u64)
+    ensures { IfSome (slice_get rows.now at)
+        (λ m. Notes IndexesRemote stamp m remote.old.slots remote.new.slots) }
+{
+    if let Some(message) = rows.get(at) {
+        remote.put(stamp, message);
     }
 }
 
@@ -147,6 +172,7 @@ impl OpenMessages {
     {
         let (spare, stamp) = self.index.push(row.id);
         self.caches.ready.put(stamp, &row);
+        self.caches.remote.put(stamp, &row);
         self.caches.due.put(&row);
         self.rows.push(row, spare);
     }
@@ -166,6 +192,7 @@ impl OpenMessages {
     {
         let stamp = self.index.stamp_at(at);
         take_rows(&mut self.caches.ready, &self.rows, at, stamp);
+        take_remote(&mut self.caches.remote, &self.rows, at, stamp);
         take_due(&mut self.caches.due, &self.rows, &self.index, at);
         self.index.remove(at);
         let place = take_out(&mut self.rows, at);
@@ -214,9 +241,11 @@ impl OpenMessages {
     {
         let stamp = self.index.stamp_at(at);
         take_rows(&mut self.caches.ready, &self.rows, at, stamp);
+        take_remote(&mut self.caches.remote, &self.rows, at, stamp);
         take_due(&mut self.caches.due, &self.rows, &self.index, at);
         self.rows.edit(at, edit);
         put_rows(&mut self.caches.ready, &self.rows, at, stamp);
+        put_remote(&mut self.caches.remote, &self.rows, at, stamp);
         put_due(&mut self.caches.due, &self.rows, at);
     }
 

@@ -15,7 +15,8 @@ use due_slots::DueTables;
 use exception_queues::MessageTables;
 use message_choice::{Choice, ChoosesMessages, Pick, choose, choose_by_walk};
 use payload_records::List;
-use queue_rows::{Change, Commit, MsgRow, Tables};
+use queue_rows::{Change, Commit, MsgRow, ScheduleRow, Tables};
+use remote_slots::{SendsMessages, least_by_rows, least_by_walk};
 use row_locks::RowLocks;
 use sort_index::Steps;
 use std::alloc::{AllocError, Global};
@@ -23,8 +24,8 @@ use std::marker::Model;
 use std::mem;
 use std::sync::ledger::Ledger;
 
-/// The tables of a database, indexes of their messages by their numbers, by their ready slots and by what is due, and the memory that
-/// a commit was prepared with. Contracts see the tables of the definitions, and that memory.
+/// The tables of a database, indexes of their messages by their numbers, by their ready slots, by those that go to the other database
+/// and by what is due, and the memory that a commit was prepared with. Contracts see the tables of the definitions, and that memory.
 #[derive(Drop)]
 pub struct PreparedStore {
     kept: KeptTables,
@@ -86,6 +87,9 @@ impl PreparedStore {
     {
         if self.caches.ready.slots.is_none() {
             self.caches.ready = self.kept.ready(alloc);
+        }
+        if self.caches.remote.slots.is_none() {
+            self.caches.remote = self.kept.remote(alloc);
         }
         if self.is_stale || self.caches.due.slots.is_none() {
             let tables = self.kept.tables();
@@ -182,6 +186,16 @@ impl ChoosesMessages for PreparedStore {
         match &self.caches.ready.slots {
             Some(ready) => choose(&self.kept, ready.index(), locks, actor, pick, steps),
             None => choose_by_walk(messages, locks, actor, pick, steps),
+        }
+    }
+}
+
+impl SendsMessages for PreparedStore {
+    fn least_to_send(&self, schedule: &ScheduleRow, moment: u64) -> Option<&MsgRow> {
+        let messages = &self.kept.tables().messages;
+        match &self.caches.remote.slots {
+            Some(remote) => least_by_rows(&self.kept, remote.index(), schedule, moment),
+            None => least_by_walk(messages, schedule, moment),
         }
     }
 }

@@ -1,5 +1,6 @@
 // The index of ready slots beside the messages, which is let go where it finds no memory.
 ghost use Rattle.std.specs.Prelude.{◌≡◌, [], length};
+ghost use Rattle.message_choice.specs.Indexed.{IndexesReady};
 ghost use Rattle.message_store.specs.Messages.{ids_of};
 ghost use Rattle.message_store.specs.Stamped.{AreStamps, Forgets, IfReady, Notes, entries_of};
 
@@ -44,7 +45,7 @@ impl ReadyCache {
 
     /// The message goes that stood under the stamp. It takes no memory.
     pub(crate) fn remove(&mut self, stamp: u64, message: &MsgRow)
-        ensures { Forgets stamp message.now self.old.slots self.new.slots }
+        ensures { Forgets IndexesReady stamp message.now self.old.slots self.new.slots }
     {
         if let Some(slots) = &mut self.slots {
             slots.remove(stamp, message);
@@ -53,7 +54,7 @@ impl ReadyCache {
 
     /// The message comes under the stamp, which no other has. Where there is no memory for its rows, the index is let go.
     pub(crate) fn put(&mut self, stamp: u64, message: &MsgRow)
-        ensures { Notes stamp message.now self.old.slots self.new.slots }
+        ensures { Notes IndexesReady stamp message.now self.old.slots self.new.slots }
     {
         let Some(slots) = &mut self.slots else {
             return;

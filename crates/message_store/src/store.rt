@@ -10,7 +10,8 @@ use due_slots::DueTables;
 use exception_queues::MessageTables;
 use message_choice::{Choice, ChoosesMessages, Pick};
 use payload_records::List;
-use queue_rows::{Change, MsgRow, Tables};
+use queue_rows::{Change, MsgRow, ScheduleRow, Tables};
+use remote_slots::SendsMessages;
 use row_locks::RowLocks;
 use sort_index::Steps;
 use std::alloc::{AllocError, Global};
@@ -92,6 +93,12 @@ impl ChoosesMessages for Store {
         steps: &mut Steps<L>,
     ) -> Choice<'a> {
         self.inner.choose(locks, actor, pick, steps)
+    }
+}
+
+impl SendsMessages for Store {
+    fn least_to_send(&self, schedule: &ScheduleRow, moment: u64) -> Option<&MsgRow> {
+        self.inner.least_to_send(schedule, moment)
     }
 }
 

@@ -1,5 +1,7 @@
 use Rattle.std.proofs.Common.{ℕ, ◌<◌, sym, subst, ◌∙◌, ap, length}
 use Rattle.queue_rows.specs.declared.rows.MsgRow.{MsgRow}
+use Rattle.message_choice.specs.Indexed.{IndexesReady}
+use Rattle.remote_slots.specs.Remote.{IndexesRemote}
 use Rattle.message_store.specs.Rows.{Rows}
 use Rattle.message_store.proofs.MessageLemmas.{ids_edited}
 use Rattle.message_store.proofs.IndexLemmas.{due_edited, edited}
@@ -13,8 +15,10 @@ invariant_of-self g c =
       rw c.edit.ensures (c.self.invariant.0 ∙ sym (ids_edited m.rows c.args.at change c.requires.id)),
       c.self.invariant.1,
       record {
-        ready = edited m.index.ids m.index.stamps m.rows c.edit.new.self c.args.at c.stamp_at-stamp.result change m.caches.ready.slots c.take_rows.new.ready.slots c.put_rows.new.ready.slots
+        ready = edited IndexesReady m.index.ids m.index.stamps m.rows c.edit.new.self c.args.at c.stamp_at-stamp.result change m.caches.ready.slots c.take_rows.new.ready.slots c.put_rows.new.ready.slots
             c.self.invariant.1 within c.stamp_at-stamp.ensures c.edit.ensures c.take_rows.ensures c.put_rows.ensures c.self.invariant.2.ready;
+        remote = edited IndexesRemote m.index.ids m.index.stamps m.rows c.edit.new.self c.args.at c.stamp_at-stamp.result change m.caches.remote.slots c.take_remote.new.remote.slots c.put_remote.new.remote.slots
+            c.self.invariant.1 within c.stamp_at-stamp.ensures c.edit.ensures c.take_remote.ensures c.put_remote.ensures c.self.invariant.2.remote;
         due = due_edited m.rows c.edit.new.self c.args.at change m.caches.due.keeps c.take_due.new.due.keeps c.put_due.new.due.keeps m.caches.due.slots c.take_due.new.due.slots c.put_due.new.due.slots
             c.take_due.ensures.keeps c.put_due.ensures.keeps within c.edit.ensures c.take_due.ensures.rows c.put_due.ensures.rows c.self.invariant.2.due;
       },

@@ -1,6 +1,8 @@
 use Rattle.std.proofs.Common.{ℕ, ◌<◌, length, List, ap, ◌∙◌, sym, subst}
 use Rattle.std.specs.Prelude.{remove}
 use Rattle.queue_rows.specs.declared.rows.MsgRow.{MsgRow}
+use Rattle.message_choice.specs.Indexed.{IndexesReady}
+use Rattle.remote_slots.specs.Remote.{IndexesRemote}
 use Rattle.message_store.specs.DueKept.{IfDue, keeps_in}
 use Rattle.message_store.specs.declared.due_cache.KeepRow.{KeepRow}
 use Rattle.message_store.specs.Rows.{Rows}
@@ -13,11 +15,13 @@ invariant_of-self c =
     let at = c.args.at in
     let m = c.self.inside in
     let within = subst (λ (n : ℕ). at < n) (sym (ap (λ (r : Rows MsgRow). length r.items) c.self.view_is)) c.requires in
-    let ready = taken m.index.ids m.index.stamps m.rows at c.stamp_at-stamp.result m.caches.ready.slots c.take_rows.new.ready.slots
+    let ready = taken IndexesReady m.index.ids m.index.stamps m.rows at c.stamp_at-stamp.result m.caches.ready.slots c.take_rows.new.ready.slots
     c.self.invariant.0 c.self.invariant.1 within c.stamp_at-stamp.ensures c.take_rows.ensures c.self.invariant.2.ready in
+    let remote = taken IndexesRemote m.index.ids m.index.stamps m.rows at c.stamp_at-stamp.result m.caches.remote.slots c.take_remote.new.remote.slots
+    c.self.invariant.0 c.self.invariant.1 within c.stamp_at-stamp.ensures c.take_remote.ensures c.self.invariant.2.remote in
     let due = subst (λ (k : List KeepRow). IfDue (keeps_in k) (remove m.rows at) c.take_due.new.due.slots) (sym c.take_due.ensures.keeps) (c.take_due.ensures.rows c.self.invariant.2.due) in
     rw c.keep.ensures (
       rw c.take_out-place.ensures (c.remove.ensures.ids ∙ ap (λ ids. remove ids at) c.self.invariant.0 ∙ ids_removed m.rows at),
       c.remove.ensures.stamped,
-      record { ready = rw (c.take_out-place.ensures, c.remove.ensures.stamps) ready; due = rw c.take_out-place.ensures due },
+      record { ready = rw (c.take_out-place.ensures, c.remove.ensures.stamps) ready; remote = rw (c.take_out-place.ensures, c.remove.ensures.stamps) remote; due = rw c.take_out-place.ensures due },
     )

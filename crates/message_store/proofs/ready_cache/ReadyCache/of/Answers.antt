@@ -1,5 +1,6 @@
 use Rattle.std.proofs.Common.{[], ◌∷◌, ◌++◌, length, refl, sym, ap, ◌∙◌}
 use Rattle.std.proofs.lemmas.List.{length-map}
+use Rattle.message_choice.specs.Indexed.{IndexesReady}
 use Rattle.message_store.proofs.EntryLemmas.{all_gone, as_long, index_grown, longer, split_on, stamp_left}
 use Rattle.message_store.proofs.ready_cache.ReadyCache.of.Goals as goal
 
@@ -28,7 +29,7 @@ loop-message-preserved c =
       done = so.done ++ m ∷ [];
       all = split_on m so.done c.next.new.self c.loop-message.message-iterator c.args.messages.now c.in-Some.ensures.steps so.all;
       count = longer at m so.done so.count;
-      ready = index_grown stamps c.args.messages.now so.done at c.stamp_at.result m c.loop-message.ready.slots c.put.new.self.slots c.requires.stamped.rise so.count c.stamp_at.ensures c.put.ensures so.ready;
+      ready = index_grown IndexesReady stamps c.args.messages.now so.done at c.stamp_at.result m c.loop-message.ready.slots c.put.new.self.slots c.requires.stamped.rise so.count c.stamp_at.ensures c.put.ensures so.ready;
     }
 
 pub returns : goal.returns
@@ -36,4 +37,4 @@ returns c =
     let so = c.loop-message.invariant in
     let ms = c.args.messages.now in
     let long = as_long c.args.index.now.ids c.args.index.now.stamps ms c.requires.ids c.requires.stamped in
-    all_gone c.args.index.now.stamps c.loop-message.at so.done c.loop-message.message-iterator ms c.loop-message.ready.slots c.in-None.ensures.steps.0 so.all so.count long so.ready
+    all_gone IndexesReady c.args.index.now.stamps c.loop-message.at so.done c.loop-message.message-iterator ms c.loop-message.ready.slots c.in-None.ensures.steps.0 so.all so.count long so.ready
