@@ -61,7 +61,7 @@ fn picked_at(state: &RunState, db: DbId) -> Option<SlotRef>
     requires { IsValidWorld state.now }
     ensures { result ≡ picked_at db state.now }
 {
-    let (id, slot) = pick(state.database(db).store().tables(), state.moment())?;
+    let (id, slot) = pick(state.database(db).store(), state.moment())?;
     Some(SlotRef { db, id, slot })
 }
 
