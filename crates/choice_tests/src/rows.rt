@@ -11,9 +11,6 @@ use slot_marks::{Group, Mark};
 use std::alloc::{AllocError, Global};
 use std::test::Fail;
 
-/// How many sessions have marks.
-pub const SESSIONS: u32 = 2;
-
 /// The next number that is less than a limit.
 pub fn below(seed: &mut u32, limit: u32) -> u32
     requires { 0 < limit }
@@ -89,14 +86,12 @@ fn any_facts(seed: &mut u32, alloc: Global) -> Result<Facts, AllocError> {
     })
 }
 
-/// One of the two queues, mostly `q`.
-pub fn any_queue(seed: &mut u32, alloc: Global) -> Result<Name, Fail> {
+fn any_queue(seed: &mut u32, alloc: Global) -> Result<Name, Fail> {
     let text = if below(seed, 5) == 0 { "r" } else { "q" };
     Ok(Name::read(alloc, text)?)
 }
 
-/// A message of that number in one of the two queues.
-pub fn any_message(seed: &mut u32, alloc: Global, id: u32) -> Result<MsgRow, Fail> {
+fn any_message(seed: &mut u32, alloc: Global, id: u32) -> Result<MsgRow, Fail> {
     let lane = below(seed, 4);
     let queue = any_queue(seed, alloc)?;
     let column = i64::from(below(seed, 3));
@@ -157,7 +152,7 @@ pub fn mark(
     grouped: bool,
 ) -> Result<(), Fail> {
     for _ in 0..below(seed, 5) {
-        let session = if grouped { 0 } else { below(seed, SESSIONS) };
+        let session = if grouped { 0 } else { below(seed, 2) };
         locks.reserve(session)?;
         let _held = locks.take(session, any_mark(seed, alloc, grouped)?);
     }
@@ -189,9 +184,9 @@ pub fn table(alloc: Global, grouped: bool) -> Result<TableRow, Fail> {
     })
 }
 
-/// A queue of the table `t`.
-pub fn queue(alloc: Global, name: &str, kind: QueueKind) -> Result<QueueRow, Fail> {
-    let name = Name::read(alloc, name)?;
+/// The queue `q` of the table `t`.
+pub fn queue(alloc: Global, kind: QueueKind) -> Result<QueueRow, Fail> {
+    let name = Name::read(alloc, "q")?;
     let table = Name::read(alloc, "t")?;
     Ok(QueueRow {
         name,

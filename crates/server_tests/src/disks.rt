@@ -117,25 +117,15 @@ fn damaged_and_failing_disks_are_told(rt: HostRuntime) -> Result<(), Fail> {
 }
 
 // What is told of each statement of the script, and what the dump has of it.
-type Told = &'static [(&'static str, &'static str)];
-
-const TOLD: Told = &[
+const TOLD: &[(&str, &str)] = &[
     ("create-table ok", "table t fields"),
     ("create-queue ok", "queue q table t normal"),
     ("start-queue ok", "enqueue on dequeue on"),
     ("enqueue ok", "message h1 queue q"),
 ];
 
-// The same of a second run, of which nothing that was there may be lost.
-const TOLD_AGAIN: Told = &[
-    ("", "queue q table t normal"),
-    ("", "enqueue on dequeue on"),
-    ("", "message h1 queue q"),
-    ("enqueue ok", "message h2 queue q"),
-];
-
-fn has_what_was_told(rows: Told, told: &str, dump: &str) -> bool {
-    for (line, row) in rows {
+fn has_what_was_told(told: &str, dump: &str) -> bool {
+    for (line, row) in TOLD {
         if told.contains(*line) && !dump.contains(*row) {
             return false;
         }
@@ -147,52 +137,43 @@ fn text_of(served: &Served) -> &str {
     str::from_utf8(served.sink.taken()).unwrap_or("")
 }
 
-// The bytes that a crash leaves of the disk now, with what was not synced filled so.
-fn image(alloc: Global, disk: &MemoryDisk, fill: Fill) -> Result<Vec<u8>, AllocError> {
-    disk.image(alloc, disk.calls(), fill)
+// The disk as a crash leaves it now, with what was not synced filled so.
+fn left(alloc: Global, disk: &MemoryDisk, fill: Fill) -> Result<MemoryDisk, AllocError> {
+    let image = disk.image(alloc, disk.calls(), fill)?;
+    MemoryDisk::of(alloc, image, Vec::new(alloc), None)
 }
 
 // Whether the dump of what a crash leaves has each statement that was told.
-fn keeps(alloc: Global, run: &Served, rows: Told, fill: Fill) -> Result<bool, AllocError> {
-    let home = disk(alloc, &image(alloc, &run.outcome.home, fill)?, &[])?;
-    let away = disk(alloc, &image(alloc, &run.outcome.away, fill)?, &[])?;
+fn keeps(alloc: Global, run: &Served, fill: Fill) -> Result<bool, AllocError> {
+    let home = left(alloc, &run.outcome.home, fill)?;
+    let away = left(alloc, &run.outcome.away, fill)?;
     let dump = call_over(alloc, DUMP, "", home, away)?;
-    Ok(dump.outcome.status == 0 && has_what_was_told(rows, text_of(run), text_of(&dump)))
+    Ok(dump.outcome.status == 0 && has_what_was_told(text_of(run), text_of(&dump)))
 }
 
-fn keeps_all(alloc: Global, run: &Served, rows: Told) -> Result<bool, AllocError> {
+fn keeps_all(alloc: Global, run: &Served) -> Result<bool, AllocError> {
     Ok(
-        keeps(alloc, run, rows, Fill::Old)?
-            && keeps(alloc, run, rows, Fill::New)?
-            && keeps(alloc, run, rows, Fill::Byte(255))?,
+        keeps(alloc, run, Fill::Old)?
+            && keeps(alloc, run, Fill::New)?
+            && keeps(alloc, run, Fill::Byte(255))?,
     )
 }
 
-// Whether runs over these bytes, in each of which one call fails, are told so, and a crash leaves all that they told.
-fn survive(alloc: Global, home: &[u8], away: &[u8], rows: Told) -> Result<bool, AllocError> {
-    let whole = run(alloc, disk(alloc, home, &[])?, disk(alloc, away, &[])?)?;
-    for call in 1..=whole.outcome.home.calls() {
-        let run = run(alloc, disk(alloc, home, &[call])?, disk(alloc, away, &[])?)?;
-        if run.outcome.status != 5 || !keeps_all(alloc, &run, rows)? {
-            return Ok(false);
-        }
-    }
-    for call in 1..=whole.outcome.away.calls() {
-        let run = run(alloc, disk(alloc, home, &[])?, disk(alloc, away, &[call])?)?;
-        if run.outcome.status != 5 || !keeps_all(alloc, &run, rows)? {
-            return Ok(false);
-        }
-    }
-    Ok(whole.outcome.home.calls() > 4 && keeps_all(alloc, &whole, rows)?)
+// Whether a run in which these calls fail is told so, and a crash leaves all that it told.
+fn survives(alloc: Global, home: &[u64], away: &[u64]) -> Result<bool, AllocError> {
+    let run = first_run(alloc, home, away)?;
+    Ok(run.outcome.status == 5 && keeps_all(alloc, &run)?)
 }
 
 #[test]
 fn what_was_told_survives_each_failure(rt: HostRuntime) -> Result<(), Fail> {
-    let alloc = rt.alloc();
-    assert!(rt; survive(alloc, EMPTY, EMPTY, TOLD)?);
-    let first = first_run(alloc, &[], &[])?;
-    let home = image(alloc, &first.outcome.home, Fill::New)?;
-    let away = image(alloc, &first.outcome.away, Fill::New)?;
-    assert!(rt; survive(alloc, &home, &away, TOLD_AGAIN)?);
+    let whole = first_run(rt.alloc(), &[], &[])?;
+    for call in 1..=whole.outcome.home.calls() {
+        assert!(rt; survives(rt.alloc(), &[call], &[])?, "home {call}");
+    }
+    for call in 1..=whole.outcome.away.calls() {
+        assert!(rt; survives(rt.alloc(), &[], &[call])?, "away {call}");
+    }
+    assert!(rt; whole.outcome.home.calls() > 10 && keeps_all(rt.alloc(), &whole)?);
     Ok(())
 }
