@@ -72,7 +72,8 @@ fn session_turns<D: Disk, C: Clock>(world: &mut World<D, C>) -> Result<(), Broke
     requires readings { world.old.held.world.readings < 2 ^ 62 + 2 ^ 30 }
     requires clock { IsSerialClock C.given C.plan world.old }
     ensures world { OnOk result (world.new.held.world ≡ session_turns world.old.held.world) }
-    ensures front { OnErr result (IsFront world.new.held.world.entries (session_turns world.old.held.world).entries) }
+    ensures front { OnErr result
+        (IsFront world.new.held.world.entries (session_turns world.old.held.world).entries) }
     ensures passes { Passes D.seen D.is_image D.calls D.faults C.given C.plan world.old world.new }
     ensures ends { EndsBy result world.old.held world.new.held }
     ensures few { length world.old.held.world.sessions ≤ 64 }
@@ -88,7 +89,8 @@ fn telling_turns<D: Disk, C: Clock>(world: &mut World<D, C>) -> Result<(), Broke
     requires readings { world.old.held.world.readings < 2 ^ 63 }
     requires clock { IsSerialClock C.given C.plan world.old }
     ensures world { OnOk result (world.new.held.world ≡ telling_turns world.old.held.world) }
-    ensures front { OnErr result (IsFront world.new.held.world.entries (telling_turns world.old.held.world).entries) }
+    ensures front { OnErr result
+        (IsFront world.new.held.world.entries (telling_turns world.old.held.world).entries) }
     ensures passes { Passes D.seen D.is_image D.calls D.faults C.given C.plan world.old world.new }
     ensures ends { EndsBy result world.old.held world.new.held }
 {
@@ -103,7 +105,8 @@ fn timer_turn<D: Disk, C: Clock>(world: &mut World<D, C>) -> Result<(), Broken>
     requires readings { world.old.held.world.readings < 2 ^ 63 }
     requires clock { IsSerialClock C.given C.plan world.old }
     ensures world { OnOk result (world.new.held.world ≡ next_timer_turn world.old.held.world) }
-    ensures front { OnErr result (IsFront world.new.held.world.entries (next_timer_turn world.old.held.world).entries) }
+    ensures front { OnErr result
+        (IsFront world.new.held.world.entries (next_timer_turn world.old.held.world).entries) }
     ensures passes { Passes D.seen D.is_image D.calls D.faults C.given C.plan world.old world.new }
     ensures ends { EndsBy result world.old.held world.new.held }
 {
