@@ -1,4 +1,4 @@
-//! Tests of the crates that stand on rows: locks, settling, transactions and the store.
+//! Tests of the crates that stand on rows: locks and the store.
 #![tactic(auto)]
 
 #[cfg(test)]
@@ -6,8 +6,4 @@ mod fixtures;
 #[cfg(test)]
 mod locks;
 #[cfg(test)]
-mod settling;
-#[cfg(test)]
 mod store;
-#[cfg(test)]
-mod transactions;
