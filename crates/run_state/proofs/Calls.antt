@@ -15,7 +15,7 @@ use Rattle.queue_rows.specs.declared.history.Step.TheVariants.{Call, Park, Told,
 use Rattle.sessions.specs.declared.state.SessionState.{SessionState}
 use Rattle.queue_rows.specs.Sending.{home_of, away_of, ids_copied, taking_ids}
 use Rattle.run_state.specs.CallEffects.{IsCallable, IsLaterThan, called_with, closed_call, done_by, entered_as, entered_call, holding}
-use Rattle.run_state.specs.Sessions.{session_of, unmarked, changed_at, after_call, after_park, after_reply, after_end, gone_in, left_by, OfSession}
+use Rattle.run_state.specs.Sessions.{session_of, unmarked, changed_at, after_call, after_park, after_reply, after_end, gone_in, left_by, IsAbsent, OfSession}
 use Rattle.run_state.specs.declared.call_effect.CallEffect.{CallEffect}
 use Rattle.run_state.specs.declared.call_effect.Holdings.{Holdings}
 use Rattle.run_state.specs.declared.call_effect.NewPositions.{NewPositions}
@@ -81,6 +81,12 @@ session_there (Some s) state e = (s, refl, let is : Some (session_of state) ≡ 
 pub none_there : (o : Option Session) → None ≡ option_map unmarked o → o ≡ None
 none_there None e = refl
 none_there (Some s) e = absurd (let no : None ≡ Some (unmarked s) = e in cc)
+
+-- a session that was found is there
+pub not_absent : {P : Type 0} (w v : World) (i : ℕ) (state : SessionState) → w ≡ v → option_map session_of (Some state) ≡ option_map unmarked (slice_get w.sessions i) → IsAbsent i v → P
+not_absent w v i state same is absent =
+    let none : slice_get w.sessions i ≡ None = ap (λ (x : World). slice_get x.sessions i) same ∙ absent in
+    absurd (let no : Some (session_of state) ≡ None = is ∙ ap (option_map unmarked) none in cc)
 
 pub caller_of : (w v : World) (i : ℕ) (state : SessionState) (call : CallEffect) → w ≡ v → option_map session_of (Some state) ≡ option_map unmarked (slice_get w.sessions i) → OfSession i v (λ t. IsCallable v i t call)
     → (s : Session) × (slice_get v.sessions i ≡ Some s) × (session_of state ≡ unmarked s) × (IsCallable v i s call)

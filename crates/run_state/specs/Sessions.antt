@@ -71,6 +71,10 @@ changed_at i f sessions = changed_in i f sessions (slice_get sessions i)
 abbrev pub OfSession : ℕ → World → (Session → Type 0) → Type 0
 OfSession i w P = IfSome (slice_get w.sessions i) P
 
+-- there is no session of that number
+abbrev pub IsAbsent : ℕ → World → Type 0
+IsAbsent i w = slice_get w.sessions i ≡ None
+
 -- the positions but those in the queue for the consumer
 abbrev pub elsewhere : List ℕ → Option (List ℕ) → List Position → List Position
 elsewhere queue consumer positions = filter (λ p. not (is_position queue consumer p)) positions

@@ -67,7 +67,8 @@ impl<T> ReservedList<T> {
 
     /// The last item, or None where the list is empty.
     pub fn last(&self) -> Option<&T>
-        ensures some { IfSome result (λ item. slice_get self.now.items (length self.now.items - 1) ≡ Some item.now) }
+        ensures some { IfSome result (λ item.
+            slice_get self.now.items (length self.now.items - 1) ≡ Some item.now) }
         ensures none { IfNone result (self.now.items ≡ []) }
     {
         self.items.last()

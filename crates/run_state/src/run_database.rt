@@ -106,13 +106,15 @@ impl RunDatabase {
         requires { opening ≡ store.tables }
         ensures { result ≡ opened_database store.tables }
     {
+        // What led to the opening was committed before this run.
+        let made = 0;
         let durable_seen = opening.seen.len() as u64;
         let next = opening.next;
         RunDatabase {
             opening,
             store,
-            made: 0,
-            durable: 0,
+            made,
+            durable: made,
             durable_seen,
             next,
         }

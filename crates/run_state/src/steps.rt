@@ -1,5 +1,5 @@
 // The steps of a run. Each takes all its memory before anything is changed; a flush and a telling take none.
-ghost use Rattle.std.specs.Prelude.{◌≡◌, ◌<◌, ◌+◌, ◌^◌, ◌++◌, [], ℕ, IfOk, OnOk, OnErr, IsSome, option_map, position};
+ghost use Rattle.std.specs.Prelude.{◌≡◌, ◌<◌, ◌+◌, ◌^◌, ◌++◌, [], ℕ, IfOk, OnOk, OnErr, IsOk, IsSome, option_map, position};
 ghost use Rattle.std.specs.List.{position_or_len};
 ghost use Rattle.propagation.specs.Outcomes.{meant};
 ghost use Rattle.queue_rows.specs.Propagating.{is_pair};
@@ -9,7 +9,7 @@ ghost use Rattle.queue_rows.specs.World.{other_db, database_at, entry_of, steppe
 ghost use Rattle.queue_rows.specs.Sending.{offers, arrives, confirms, sent, taking_ids, ids_copied, pair_number, home_of, away_of, transit_after};
 ghost use Rattle.run_state.specs.CallEffects.{IsCallable, IsFreeOf, IsLater, called_with, entered_as};
 ghost use Rattle.run_state.specs.Sendings.{transit_of};
-ghost use Rattle.run_state.specs.Sessions.{OfSession, gone_by, gone_in};
+ghost use Rattle.run_state.specs.Sessions.{IsAbsent, OfSession, gone_by, gone_in};
 
 use crate::call_effect::CallEffect;
 use crate::entering::{put, put_call};
@@ -204,10 +204,11 @@ impl RunState {
         Ok(())
     }
 
-    /// The session of that number makes this call. At want of memory all is as before.
+    /// The session of that number makes this call, if there is one. At want of memory all is as before.
     pub fn call(&mut self, at: u32, effect: CallEffect) -> Result<(), AllocError>
         requires { OfSession at self.old (λ s. IsCallable self.old at s effect) }
         ensures ok { OnOk result (OfSession at self.old (λ s. self.new ≡ called_with at effect self.old s)) }
+        ensures absent { IsAbsent at self.old → IsOk result × (self.new ≡ self.old) }
         ensures err { OnErr result (self.new ≡ self.old) }
     {
         let Some(session) = self.registry.get(at) else {
@@ -221,10 +222,12 @@ impl RunState {
         Ok(())
     }
 
-    /// The next statement of the session of that number waits since that moment, which is noted once. At want of memory all is as before.
+    /// The next statement of the session of that number, if there is one, waits since that moment, which is noted once. At want of memory
+    /// all is as before.
     pub fn park(&mut self, at: u32, since: u64) -> Result<(), AllocError>
         requires { OfSession at self.old (λ s. s.next + 1 < 2 ^ 32) }
         ensures ok { OnOk result (OfSession at self.old (λ s. self.new ≡ parked at s since self.old)) }
+        ensures absent { IsAbsent at self.old → IsOk result × (self.new ≡ self.old) }
         ensures err { OnErr result (self.new ≡ self.old) }
     {
         let Some(session) = self.registry.get(at) else {
@@ -239,11 +242,15 @@ impl RunState {
         Ok(())
     }
 
-    /// Ends the session of that number. At want of memory all is as before.
+    /// Ends the session of that number, if there is one. At want of memory all is as before.
     pub fn end(&mut self, at: u32) -> Result<(), AllocError>
         ensures ok { OnOk result (OfSession at self.old (λ s. self.new ≡ ended at s self.old)) }
+        ensures absent { IsAbsent at self.old → IsOk result × (self.new ≡ self.old) }
         ensures err { OnErr result (self.new ≡ self.old) }
     {
+        let Some(_) = self.registry.get(at) else {
+            return Ok(());
+        };
         self.note(at, Step::End)?;
         self.registry.end(at);
         Ok(())

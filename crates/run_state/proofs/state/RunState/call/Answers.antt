@@ -6,7 +6,7 @@ use Rattle.run_state.specs.Sendings.{transit_of}
 use Rattle.run_state.specs.Sessions.{session_of, unmarked}
 use Rattle.run_state.proofs.Results.{some_of}
 use Rattle.run_state.proofs.Putting.{run_of}
-use Rattle.run_state.proofs.Calls.{caller_of, next_entered, call_is}
+use Rattle.run_state.proofs.Calls.{caller_of, next_entered, call_is, not_absent}
 use Rattle.run_state.proofs.state.RunState.call.Goals as goal
 
 pub enter_call-requires-clause-early : goal.enter_call-requires-clause-early
@@ -59,3 +59,18 @@ returns-clause-ok c =
     some_of (λ t. c.take_ids.new.self ≡ called_with c.args.at c.args.effect c.args.self.now t) (slice_get c.args.self.now.sessions c.args.at) s.0 s.1
     (call_is db c.args.at c.ids_taken-ids.result c.in-Some.session.now.next c.args.self.now c.enter_call.new.self c.take_ids.new.self s.0 c.args.effect c.in_ok-gone.gone
     s.1 at number c.ids_taken-ids.ensures c.in_ok-gone.ensures c.in_ok-enter_call.ensures.ok c.take_ids.ensures)
+
+pub returns-in_err-gone-clause-absent : goal.returns-in_err-gone-clause-absent
+returns-in_err-gone-clause-absent c absent =
+    let is : option_map session_of (Some c.in-Some.session.now) ≡ option_map unmarked (slice_get c.self.inside.registry.sessions c.args.at) = sym (ap (λ o. option_map session_of (option_copied o)) c.in-Some.is) ∙ c.get.ensures in
+    not_absent _ _ c.args.at c.in-Some.session.now c.self.view_is is absent
+
+pub returns-in_err-enter_call-clause-absent : goal.returns-in_err-enter_call-clause-absent
+returns-in_err-enter_call-clause-absent c absent =
+    let is : option_map session_of (Some c.in-Some.session.now) ≡ option_map unmarked (slice_get c.self.inside.registry.sessions c.args.at) = sym (ap (λ o. option_map session_of (option_copied o)) c.in-Some.is) ∙ c.get.ensures in
+    not_absent _ _ c.args.at c.in-Some.session.now c.self.view_is is absent
+
+pub returns-clause-absent : goal.returns-clause-absent
+returns-clause-absent c absent =
+    let is : option_map session_of (Some c.in-Some.session.now) ≡ option_map unmarked (slice_get c.self.inside.registry.sessions c.args.at) = sym (ap (λ o. option_map session_of (option_copied o)) c.in-Some.is) ∙ c.get.ensures in
+    not_absent _ _ c.args.at c.in-Some.session.now c.self.view_is is absent

@@ -8,7 +8,7 @@ use Rattle.run_state.specs.Sessions.{session_of, unmarked, changed_at, after_par
 use Rattle.run_state.proofs.Results.{some_of}
 use Rattle.run_state.proofs.Promises.{owed_same}
 use Rattle.run_state.proofs.Putting.{run_of}
-use Rattle.run_state.proofs.Calls.{session_there, parked_is, waits_still}
+use Rattle.run_state.proofs.Calls.{session_there, not_absent, parked_is, waits_still}
 use Rattle.run_state.proofs.state.RunState.park.Goals as goal
 
 pub returns-then-is_some-clause-ok : goal.returns-then-is_some-clause-ok
@@ -45,3 +45,13 @@ invariant_of-self c =
       counted = c.self-2.invariant.counted;
       room = omega (arith, same, room);
     }
+
+pub returns-in_err-note-clause-absent : goal.returns-in_err-note-clause-absent
+returns-in_err-note-clause-absent c absent =
+    let is : option_map session_of (Some c.in-Some.session.now) ≡ option_map unmarked (slice_get c.self.inside.registry.sessions c.args.at) = sym (ap (λ o. option_map session_of (option_copied o)) c.in-Some.is) ∙ c.get.ensures in
+    not_absent _ _ c.args.at c.in-Some.session.now c.self.view_is is absent
+
+pub returns-clause-absent : goal.returns-clause-absent
+returns-clause-absent c absent =
+    let is : option_map session_of (Some c.in-Some.session.now) ≡ option_map unmarked (slice_get c.self.inside.registry.sessions c.args.at) = sym (ap (λ o. option_map session_of (option_copied o)) c.in-Some.is) ∙ c.get.ensures in
+    not_absent _ _ c.args.at c.in-Some.session.now c.self.view_is is absent
