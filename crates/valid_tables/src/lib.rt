@@ -19,4 +19,5 @@ pub use named::NamedRows;
 pub use numbers::has_right_numbers;
 pub use queues::is_valid_queue;
 pub use subscribers::{is_valid_schedule, is_valid_sub};
+pub use tables::is_valid_table;
 pub use valid::is_valid;

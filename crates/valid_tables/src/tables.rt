@@ -17,23 +17,24 @@ fn is_default_exception(table: &Name, queue: &QueueRow) -> bool
     queue.kind.is_exception() && queue.table == *table
 }
 
-fn has_default_exception(catalog: &Catalog<'_>, table: &Name) -> Result<bool, AllocError>
+fn has_default_exception<R: NamedRows>(rows: &R, table: &Name) -> Result<bool, AllocError>
     ensures { IfOk result (λ has. has
         ≡ option_map_or (is_default_exception table.now)
-        (find_queue catalog.now (exception_name table.now)) false) }
+        (find_queue (R.tables rows.now) (exception_name table.now)) false) }
 {
     let name = table.with_suffix("_e")?;
-    match catalog.queue(&name) {
+    match rows.queue(&name) {
         Some(queue) => Ok(is_default_exception(table, queue)),
         None => Ok(false),
     }
 }
 
-// It has no more fields than a record type, and has its default exception queue, of kind exception.
-fn is_valid_table(catalog: &Catalog<'_>, table: &TableRow) -> Result<bool, AllocError>
-    ensures { IfOk result (λ valid. valid ≡ is_valid_table catalog.now table.now) }
+/// Whether the queue table has no more fields than a record type, and its default exception queue is there, of kind exception. The
+/// error is want of memory.
+pub fn is_valid_table<R: NamedRows>(rows: &R, table: &TableRow) -> Result<bool, AllocError>
+    ensures { IfOk result (λ valid. valid ≡ is_valid_table (R.tables rows.now) table.now) }
 {
-    Ok(table.fields.fields().len() <= FIELD_LIMIT && has_default_exception(catalog, &table.name)?)
+    Ok(table.fields.fields().len() <= FIELD_LIMIT && has_default_exception(rows, &table.name)?)
 }
 
 /// Whether each queue table is right.
