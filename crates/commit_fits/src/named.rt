@@ -1,16 +1,16 @@
 // What a commit names, as it stands in the tables after it.
 ghost use Rattle.std.specs.Prelude.{◌≡◌, IfOk};
 ghost use Rattle.std.specs.List.{list_all};
-ghost use Rattle.fit_laws.specs.FitLaws.{holds_right_message, holds_right_queue, holds_right_schedule, holds_right_sub, leaves_right, leaves_all_right};
+ghost use Rattle.fit_laws.specs.FitLaws.{holds_right_message, holds_right_table, holds_right_queue, holds_right_schedule, holds_right_sub, leaves_right, leaves_all_right};
 
 use aq_base::SUBSCRIBER_LIMIT;
-use exception_queues::{MessageTables, find_queue};
+use exception_queues::{MessageTables, find_queue, find_table};
 use payload_records::{List, Name};
 use queue_rows::{Change, Tables};
 use std::alloc::AllocError;
 use valid_tables::{
     NamedRows, find_schedule, find_sub, has_right_numbers, is_valid_message, is_valid_queue,
-    is_valid_schedule, is_valid_sub,
+    is_valid_schedule, is_valid_sub, is_valid_table,
 };
 
 // ---- a row that is right, where it is there
@@ -21,6 +21,15 @@ fn holds_right_message<T: MessageTables>(tables: &T, id: u64) -> bool
     match tables.message(id) {
         Some(message) => is_valid_message(tables.tables(), message),
         None => true,
+    }
+}
+
+fn holds_right_table(tables: &Tables, name: &Name) -> Result<bool, AllocError>
+    ensures { IfOk result (λ right. right ≡ holds_right_table tables.now name.now) }
+{
+    match find_table(tables, name) {
+        Some(table) => is_valid_table(tables, table),
+        None => Ok(true),
     }
 }
 
@@ -74,13 +83,13 @@ fn leaves_right<T: MessageTables>(tables: &T, change: &Change) -> Result<bool, A
             Ok(holds_right_message(tables, *id) && holds_right_queue(tables.tables(), queue))
         }
         Change::Seen(row) => Ok(row.copy < tables.tables().next),
+        Change::PutTable(row) => holds_right_table(tables.tables(), &row.name),
         Change::PutQueue(row) => Ok(holds_right_queue(tables.tables(), &row.name)),
         Change::PutSub(row) => holds_right_sub(tables.tables(), &row.queue, &row.name),
         Change::PutSchedule(row) => {
             Ok(holds_right_schedule(tables.tables(), &row.queue, &row.to))
         }
-        Change::PutTable(_)
-        | Change::DropTable(_)
+        Change::DropTable(_)
         | Change::DropQueue(_)
         | Change::DropSub { .. }
         | Change::DropSchedule { .. }

@@ -11,7 +11,7 @@ use Rattle.queue_rows.specs.declared.tables.Tables.{Tables}
 use Rattle.redo_records.specs.Reading.{decode}
 use Rattle.redo_records.specs.Recovered.{after_body}
 use Rattle.redo_records.specs.Spelled.{HasSpelling}
-use Rattle.fit_laws.specs.FitLaws.{all_leave_queues}
+use Rattle.fit_laws.specs.FitLaws.{are_local}
 use Rattle.commit_fits.specs.Told.{TellsFit}
 use Rattle.database_recovery.specs.Recovering.{Makes}
 use Rattle.database_recovery.specs.Sound.{IsSound}
@@ -45,12 +45,12 @@ pub where_some : {A : Type 0} (P : A → Type 0) (o : Option A) (a : A) → o �
 where_some P o a e h = subst (λ x. IfSome x P) e h
 
 -- what is told of the tables after the commit is whether it fits
-pub told_fits : {E : Type 0} (answer : Result Bool E) (t new : Tables) (c : Commit) (named : List Change) (left : Bool) → named ≡ c.changes → is_valid t ≡ true
-    → all_name_what_is_there t c.changes ≡ true → left ≡ all_leave_queues t c.changes → new ≡ after t c → IfOk answer (TellsFit new named left) → IfOk answer (λ fitting. fitting ≡ fits t c)
-told_fits (Ok told) t new c named left same valid all_named leave made tells =
-    tells t c.moment (record { valid = valid; named = rw same all_named; queues = λ e. rw same (sym leave ∙ e); made = made ∙ ap (λ cs. after t (record { moment = c.moment; changes = cs })) (sym same) })
+pub told_fits : {E : Type 0} (answer : Result Bool E) (t new : Tables) (c : Commit) (named : List Change) (local : Bool) → named ≡ c.changes → is_valid t ≡ true
+    → all_name_what_is_there t c.changes ≡ true → local ≡ are_local t c.changes → new ≡ after t c → IfOk answer (TellsFit new named local) → IfOk answer (λ fitting. fitting ≡ fits t c)
+told_fits (Ok told) t new c named local same valid all_named are made tells =
+    tells t c.moment (record { valid = valid; named = rw same all_named; locality = λ e. rw same (sym are ∙ e); made = made ∙ ap (λ cs. after t (record { moment = c.moment; changes = cs })) (sym same) })
     ∙ ap (λ cs. fits t (record { moment = c.moment; changes = cs })) same
-told_fits (Err e) t new c named left same valid all_named leave made tells = tt
+told_fits (Err e) t new c named local same valid all_named are made tells = tt
 
 pub made_if_told : {E : Type 0} (answer : Result Bool E) (t u : Tables) → t ≡ u → IfOk answer (λ fitting. OnTrue fitting (t ≡ u))
 made_if_told (Ok true) t u e = e

@@ -4,16 +4,16 @@ ghost use Rattle.std.specs.Bool.{OnTrue};
 ghost use Rattle.queue_rows.specs.Fits.{names_what_is_there, all_name_what_is_there, fits};
 ghost use Rattle.queue_rows.specs.Tables.{after_change, after_all, after};
 ghost use Rattle.queue_rows.specs.Valid.{is_valid};
-ghost use Rattle.fit_laws.specs.FitLaws.{leaves_queues, all_leave_queues};
+ghost use Rattle.fit_laws.specs.FitLaws.{is_local, are_local};
 
-use commit_fits::{leaves_queues, stays_valid};
+use commit_fits::{is_local, stays_valid};
 use message_store::PreparedStore;
 use payload_records::List;
 use queue_rows::{Change, Commit};
 use std::alloc::{AllocError, Global};
 use valid_tables::names_what_is_there;
 
-// Makes a change where what it names is there, and then answers whether it leaves the queues that are there.
+// Makes a change where what it names is there, and then answers whether it was local.
 #[tactic(auto, using(crate::proofs::Judging::after_one))]
 fn make_change(
     alloc: Global,
@@ -23,23 +23,22 @@ fn make_change(
     ensures named { IfOk result (λ made. is_some made ≡ names_what_is_there store.old.tables change) }
     ensures made { IfOk result (λ made. IfSome made (λ _.
         store.new.tables ≡ after_change store.old.tables change)) }
-    ensures left { IfOk result (λ made. IfSome made (λ left.
-        left ≡ leaves_queues store.old.tables change)) }
+    ensures local { IfOk result (λ made. IfSome made (λ local.
+        local ≡ is_local store.old.tables change)) }
 {
     if !names_what_is_there(store, &change) {
         return Ok(None);
     }
-    let left = leaves_queues(store.tables(), &change);
+    let local = is_local(store.tables(), &change)?;
     let mut changes = List::new(alloc);
     changes.push(change)?;
     let commit = Commit { moment: 0, changes };
     store.prepare(&commit)?;
     store.apply(commit);
-    Ok(Some(left))
+    Ok(Some(local))
 }
 
-// Makes changes in order where what they name is there when they come, and then answers whether each leaves the queues that are there when
-// it comes.
+// Makes changes in order where what they name is there when they come, and then answers whether each was local when it came.
 fn make_changes(
     alloc: Global,
     store: &mut PreparedStore,
@@ -49,18 +48,18 @@ fn make_changes(
         is_some made ≡ all_name_what_is_there store.old.tables changes) }
     ensures made { IfOk result (λ made. IfSome made (λ _.
         store.new.tables ≡ after_all store.old.tables changes)) }
-    ensures left { IfOk result (λ made. IfSome made (λ left.
-        left ≡ all_leave_queues store.old.tables changes)) }
+    ensures local { IfOk result (λ made. IfSome made (λ local.
+        local ≡ are_local store.old.tables changes)) }
 {
     let mut changes = changes.into_vec();
-    let mut left = true;
+    let mut local = true;
     for change in changes.drain(..) {
         let Some(one) = make_change(alloc, store, change)? else {
             return Ok(None);
         };
-        left = left && one;
+        local = local && one;
     }
-    Ok(Some(left))
+    Ok(Some(local))
 }
 
 #[tactic(auto, using(crate::proofs::Judging::after_none))]
@@ -91,9 +90,9 @@ pub(crate) fn make_fitting(
         (store.new.tables ≡ after store.old.tables commit)) }
 {
     let Commit { moment, changes } = commit;
-    let Some(left) = make_changes(alloc, store, changes)? else {
+    let Some(local) = make_changes(alloc, store, changes)? else {
         return Ok(false);
     };
     raise_latest(alloc, store, moment)?;
-    stays_valid(alloc, store, named, left)
+    stays_valid(alloc, store, named, local)
 }

@@ -1,4 +1,4 @@
-//! Laws of commits that fit: where a commit leaves queues as they are, what it names tells whether the tables after it are valid.
+//! Laws of commits that fit: where changes are local, what a commit names tells whether the tables after it are valid.
 #![tactic(auto)]
 
 mod laws;

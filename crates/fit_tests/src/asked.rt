@@ -8,10 +8,16 @@ use std::test::Fail;
 /// A change; what it does to a slot it does to slot 1, at the moment 4 where none is named.
 #[derive(Clone, Copy)]
 pub(crate) enum Asked {
-    /// The queue table `t`.
-    Table,
-    /// A queue of that name, and whether it is an exception queue.
+    /// The queue table of that name.
+    Table(&'static str),
+    /// The queue table goes.
+    NoTable(&'static str),
+    /// A queue of that name of the table `t`, and whether it is an exception queue.
     Queue(&'static str, bool),
+    /// The like of the table `u`.
+    Other(&'static str, bool),
+    /// The queue `q` with so many retries, and with the lowest lane -1.
+    Allows(u64),
     /// The queue goes.
     NoQueue(&'static str),
     /// A subscriber of the queue.
@@ -36,13 +42,17 @@ pub(crate) enum Asked {
     Next(u64),
 }
 
-fn put_queue(alloc: Global, name: &str, is_exception: bool) -> Result<Change, Fail> {
+fn put_queue(alloc: Global, table: &str, name: &str, is_exception: bool) -> Result<Change, Fail> {
     let kind = if is_exception {
         QueueKind::Exception
     } else {
         QueueKind::Normal
     };
-    Ok(Change::PutQueue(rows::queue(alloc, name, kind)?))
+    Ok(Change::PutQueue(rows::queue(alloc, table, name, kind)?))
+}
+
+fn no_table(alloc: Global, name: &str) -> Result<Change, Fail> {
+    Ok(Change::DropTable(Name::read(alloc, name)?))
 }
 
 fn no_queue(alloc: Global, name: &str) -> Result<Change, Fail> {
@@ -84,11 +94,20 @@ fn plain(asked: Asked) -> Option<Change> {
     }
 }
 
+fn of_queues(alloc: Global, asked: Asked) -> Result<Option<Change>, Fail> {
+    match asked {
+        Asked::Table(name) => Ok(Some(Change::PutTable(rows::table(alloc, name)?))),
+        Asked::NoTable(name) => Ok(Some(no_table(alloc, name)?)),
+        Asked::Queue(name, is_exception) => Ok(Some(put_queue(alloc, "t", name, is_exception)?)),
+        Asked::Other(name, is_exception) => Ok(Some(put_queue(alloc, "u", name, is_exception)?)),
+        Asked::Allows(retries) => Ok(Some(Change::PutQueue(rows::retrying(alloc, retries)?))),
+        Asked::NoQueue(name) => Ok(Some(no_queue(alloc, name)?)),
+        _ => Ok(None),
+    }
+}
+
 fn put(alloc: Global, asked: Asked) -> Result<Change, Fail> {
     match asked {
-        Asked::Table => Ok(Change::PutTable(rows::table(alloc)?)),
-        Asked::Queue(name, is_exception) => put_queue(alloc, name, is_exception),
-        Asked::NoQueue(name) => no_queue(alloc, name),
         Asked::Sub(queue) => Ok(Change::PutSub(rows::sub(alloc, queue)?)),
         Asked::Schedule(queue, failures) => {
             Ok(Change::PutSchedule(rows::schedule(alloc, queue, failures)?))
@@ -102,7 +121,10 @@ fn put(alloc: Global, asked: Asked) -> Result<Change, Fail> {
 }
 
 fn change(alloc: Global, asked: Asked) -> Result<Change, Fail> {
-    match plain(asked) {
+    if let Some(change) = plain(asked) {
+        return Ok(change);
+    }
+    match of_queues(alloc, asked)? {
         Some(change) => Ok(change),
         None => put(alloc, asked),
     }

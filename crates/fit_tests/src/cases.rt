@@ -3,7 +3,7 @@ ghost use Rattle.std.specs.Prelude.{All, IsTrue};
 ghost use Rattle.message_store.specs.Numbers.{HasNumbers};
 
 use crate::asked::{Asked, changes};
-use commit_fits::{leaves_queues, stays_valid};
+use commit_fits::{is_local, stays_valid};
 use message_store::Store;
 use payload_records::List;
 use queue_rows::Change;
@@ -39,20 +39,23 @@ fn name_what_is_there(store: &Store, changes: &List<Change>) -> bool {
         .all(|change| names_what_is_there(store, change))
 }
 
-fn leave_queues(store: &Store, changes: &List<Change>) -> bool {
-    changes
-        .iter()
-        .all(|change| leaves_queues(store.tables(), change))
+fn are_local(store: &Store, changes: &List<Change>) -> Result<bool, AllocError> {
+    for change in changes {
+        if !is_local(store.tables(), change)? {
+            return Ok(false);
+        }
+    }
+    Ok(true)
 }
 
-// Where each names what is there they are made; then it is told whether each leaves the queues.
+// Where each names what is there they are made; then it is told whether each was local.
 fn make(store: &mut Store, changes: &List<Change>) -> Result<Option<bool>, AllocError> {
     if !name_what_is_there(store, changes) || !have_numbers(changes) {
         return Ok(None);
     }
-    let left = leave_queues(store, changes);
+    let local = are_local(store, changes)?;
     store.commit(changes, MOMENT)?;
-    Ok(Some(left))
+    Ok(Some(local))
 }
 
 fn make_one(store: &mut Store, alloc: Global, asked: &[Asked]) -> Result<Option<bool>, Fail> {
@@ -61,14 +64,14 @@ fn make_one(store: &mut Store, alloc: Global, asked: &[Asked]) -> Result<Option<
 }
 
 fn make_all(store: &mut Store, alloc: Global, all: &[Asked]) -> Result<Option<bool>, Fail> {
-    let mut left = true;
+    let mut local = true;
     for asked in all.chunks(1) {
         let Some(one) = make_one(store, alloc, asked)? else {
             return Ok(None);
         };
-        left = left && one;
+        local = local && one;
     }
-    Ok(Some(left))
+    Ok(Some(local))
 }
 
 // ---- the answer
@@ -78,21 +81,21 @@ fn is_told(
     store: &Store,
     alloc: Global,
     changes: &List<Change>,
-    left: bool,
+    local: bool,
 ) -> Result<&'static str, AllocError> {
     let valid = is_valid(alloc, store.tables())?;
-    if stays_valid(alloc, store, changes, left)? != valid {
+    if stays_valid(alloc, store, changes, local)? != valid {
         return Ok("wrong");
     }
     Ok(if valid { "fits" } else { "invalid" })
 }
 
 fn told(store: &mut Store, alloc: Global, all: &[Asked]) -> Result<&'static str, Fail> {
-    let Some(left) = make_all(store, alloc, all)? else {
+    let Some(local) = make_all(store, alloc, all)? else {
         return Ok("misnamed");
     };
     let changes = changes(alloc, all)?;
-    Ok(is_told(store, alloc, &changes, left)?)
+    Ok(is_told(store, alloc, &changes, local)?)
 }
 
 fn judged(alloc: Global, all: &[Asked]) -> Result<&'static str, Fail> {
@@ -107,7 +110,7 @@ fn judged(alloc: Global, all: &[Asked]) -> Result<&'static str, Fail> {
 
 // A queue with two messages, in tables that are valid.
 const BEFORE: [Asked; 5] = [
-    Asked::Table,
+    Asked::Table("t"),
     Asked::Queue("t_e", true),
     Asked::Queue("q", false),
     Asked::Message(1, "q", 0),
@@ -116,7 +119,7 @@ const BEFORE: [Asked; 5] = [
 
 type Case = (&'static [Asked], &'static str);
 
-const CASES: [Case; 35] = [
+const CASES: [Case; 59] = [
     (&[], "fits"),
     (&[Asked::Message(3, "q", -2)], "fits"),
     (&[Asked::Message(2, "q", 0)], "misnamed"),
@@ -155,6 +158,67 @@ const CASES: [Case; 35] = [
     (&[Asked::NoQueue("t_e")], "invalid"),
     (&[Asked::Next(3)], "fits"),
     (&[Asked::Next(2)], "invalid"),
+    (&[Asked::Allows(3)], "fits"),
+    (&[Asked::Allows(3), Asked::Retried(1, 3)], "fits"),
+    (&[Asked::Retried(1, 2), Asked::Allows(1)], "invalid"),
+    (&[Asked::Allows(1)], "fits"),
+    (&[Asked::Allows(2_147_483_647)], "fits"),
+    (&[Asked::Allows(2_147_483_648)], "invalid"),
+    (&[Asked::NoQueue("q"), Asked::Message(3, "q", 0)], "invalid"),
+    (
+        &[
+            Asked::Sub("q"),
+            Asked::Schedule("q", 0),
+            Asked::NoQueue("q"),
+        ],
+        "fits",
+    ),
+    (&[Asked::NoQueue("q"), Asked::Sub("q")], "invalid"),
+    (&[Asked::NoQueue("t_e"), Asked::Queue("t_e", true)], "fits"),
+    (
+        &[
+            Asked::Expired(1),
+            Asked::Moved(1, "t_e"),
+            Asked::NoQueue("q"),
+        ],
+        "fits",
+    ),
+    (&[Asked::Table("u"), Asked::Other("u_e", true)], "fits"),
+    (&[Asked::Other("u_e", true), Asked::Table("u")], "fits"),
+    (&[Asked::Table("u")], "invalid"),
+    (&[Asked::Other("u_e", true)], "invalid"),
+    (&[Asked::Table("u"), Asked::Other("u_e", false)], "invalid"),
+    (&[Asked::Table("u"), Asked::Queue("u_e", true)], "invalid"),
+    (&[Asked::Table("t")], "fits"),
+    (&[Asked::NoTable("t")], "invalid"),
+    (&[Asked::NoTable("u")], "misnamed"),
+    (&[Asked::NoQueue("q"), Asked::NoTable("t")], "fits"),
+    (
+        &[
+            Asked::Expired(1),
+            Asked::Moved(1, "t_e"),
+            Asked::NoQueue("q"),
+            Asked::NoTable("t"),
+        ],
+        "invalid",
+    ),
+    (
+        &[
+            Asked::Table("u"),
+            Asked::Other("u_e", true),
+            Asked::NoTable("u"),
+        ],
+        "fits",
+    ),
+    (
+        &[
+            Asked::Queue("u_e", false),
+            Asked::Sub("u_e"),
+            Asked::Table("u"),
+            Asked::NoTable("u"),
+        ],
+        "invalid",
+    ),
 ];
 
 fn check(rt: &impl Abort, alloc: Global, cases: &[Case]) -> Result<(), Fail> {

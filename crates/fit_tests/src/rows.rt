@@ -16,9 +16,9 @@ fn sort(alloc: Global) -> Result<SortList, Fail> {
     Ok(SortList::of(columns).ok_or("no sort list")?)
 }
 
-/// The queue table `t`, for many consumers, of payloads without a field.
-pub(crate) fn table(alloc: Global) -> Result<TableRow, Fail> {
-    let name = Name::read(alloc, "t")?;
+/// A queue table for many consumers, of payloads without a field.
+pub(crate) fn table(alloc: Global, name: &str) -> Result<TableRow, Fail> {
+    let name = Name::read(alloc, name)?;
     let fields = RecordType::of(List::new(alloc))?.ok_or("no type")?;
     let columns = sort(alloc)?;
     Ok(TableRow {
@@ -30,10 +30,15 @@ pub(crate) fn table(alloc: Global) -> Result<TableRow, Fail> {
     })
 }
 
-/// A queue of the table `t` that allows two retries.
-pub(crate) fn queue(alloc: Global, name: &str, kind: QueueKind) -> Result<QueueRow, Fail> {
+/// A queue of a table that allows two retries.
+pub(crate) fn queue(
+    alloc: Global,
+    table: &str,
+    name: &str,
+    kind: QueueKind,
+) -> Result<QueueRow, Fail> {
     let name = Name::read(alloc, name)?;
-    let table = Name::read(alloc, "t")?;
+    let table = Name::read(alloc, table)?;
     Ok(QueueRow {
         name,
         table,
@@ -45,6 +50,14 @@ pub(crate) fn queue(alloc: Global, name: &str, kind: QueueKind) -> Result<QueueR
         retention: 0,
         lowest: 0,
     })
+}
+
+/// The queue `q` of the table `t` with so many retries, and with the lowest lane -1.
+pub(crate) fn retrying(alloc: Global, max_retries: u64) -> Result<QueueRow, Fail> {
+    let mut row = queue(alloc, "t", "q", QueueKind::Normal)?;
+    row.max_retries = max_retries;
+    row.lowest = -1;
+    Ok(row)
 }
 
 // ---- subscribers, schedules, and what was seen
