@@ -1,16 +1,15 @@
 -- A turn by the clock of the serial schedule takes the next reading of that.
-use Rattle.std.proofs.Common.{◌≡◌, ◌⊎◌, inl, inr, ℕ, ◌+◌, Bool, true, false, not, List, [], Option, Some, None, refl, sym, ap, subst, ◌∙◌, arith}
-use Rattle.std.specs.Prelude.{◌^◌, IsSome, ◌&&◌, ◌==◌, min, slice_get, is_none, is_some, if◌then◌else◌}
+use Rattle.std.proofs.Common.{◌≡◌, ℕ, ◌+◌, Bool, true, false, not, List, [], Option, Some, None, refl, sym, ap, subst, ◌∙◌, arith}
+use Rattle.std.specs.Prelude.{IsSome, ◌&&◌, ◌==◌, min, slice_get, is_none, is_some, if◌then◌else◌}
 use Rattle.std.proofs.lemmas.Bool.{false≢true}
 use Rattle.queue_rows.specs.Session.{Session, Untold}
 use Rattle.queue_rows.specs.Order.{IsFront}
 use Rattle.queue_rows.specs.World.{greatest_moment, World, read_clock}
-use Rattle.queue_rows.specs.Serial.{at_closing, next_closing_turn}
 use Rattle.queue_rows.specs.Turns.{next_reading, turn_of, turn_of_some, session_turn, timer_turn, propagator_turn, begun, propagated, own_turn, any_live, closing_turn, DrainsIn}
 use Rattle.queue_rows.specs.Statements.{next_statement}
 use Rattle.aq_clock.specs.Clock.{step_reading}
 use Rattle.aq_world.specs.Clocked.{Clocked, IsClosing, IsTurn, Reads, TakesReading}
-use Rattle.aq_world.specs.Turning.{IsOfRun, IsUnclosed, IsWhole, has_ended, is_over, is_owed, is_session, reads_clock, turned}
+use Rattle.aq_world.specs.Turning.{IsOfRun, IsUnclosed, IsWhole, is_over, is_owed, is_session, reads_clock, turned}
 use Rattle.aq_world.specs.declared.turn_end.TurnEnd.{TurnEnd}
 use Rattle.aq_world.specs.declared.turn_end.TurnEnd.TheVariants as ends
 use Rattle.aq_run.specs.Passing.{IsSerialClock}

@@ -12,4 +12,5 @@ pub mod Results
 pub mod Running
 pub mod Statuses
 pub mod Surviving
+pub mod Taking
 pub mod Turning

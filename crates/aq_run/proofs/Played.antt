@@ -11,7 +11,7 @@ use Rattle.fate_laws.specs.Made.{commits_of, opening_of}
 use Rattle.history_fates.specs.Durability.{made, durable}
 use Rattle.database_recovery.specs.Sound.{IsSound}
 use Rattle.queue_rows.specs.Legal.{IsLegalHistory}
-use Rattle.queue_rows.specs.Serial.{IsSerial, IsSerialFront, IsOnTheWay}
+use Rattle.queue_rows.specs.Serial.{AreSerial, IsSerial, IsSerialFront, IsOnTheWay}
 use Rattle.run_turns.specs.Laws.{IsAllDone, SerialCallsAll, SerialFrontIsLegal, SerialIsDone, SerialIsLegal, LegalCallsInOrder}
 use Rattle.run_fates.specs.DurableRun.{SerialIsDurable}
 use Rattle.run_spellings.specs.SpellableRun.{HasSpellableRows, have_text_rules}
@@ -27,8 +27,7 @@ use Rattle.aq_world.specs.Mounting.{RecoversTo}
 use Rattle.aq_world.specs.Turning.{IsOfRun}
 use Rattle.aq_run.specs.Disks.{SurvivesCall, LeavesWhole, FailsEither, FailsNeither}
 use Rattle.aq_run.specs.Passing.{EndsBy}
-use Rattle.aq_run.specs.Rounds.{HasRun}
-use Rattle.aq_run.specs.Serve.{IsAllDoneAfter, LegalHolds, PlaysOver, end_of}
+use Rattle.aq_run.specs.Serve.{LegalHolds, PlaysOver, end_of}
 use Rattle.aq_run.specs.declared.play.RunEnd.{RunEnd}
 use Rattle.aq_run.specs.declared.play.RunEnd.TheVariants as ends
 use Rattle.aq_run.proofs.Playing.{Opens, home_is, away_is, scripts_are, may_so, whole_run, part_run, serial_front}
@@ -132,7 +131,7 @@ module _ {D : Type 0} (seen : D → Option (List ℕ)) (images : D → ℕ → L
 
     -- ---- all of it
 
-    module _ {T : Type 0} (r : Result T Broken) (has : OnOk r (HasRun w.world v.world)) (way : OnErr r (IsOnTheWay w.world v.world.entries)) (by : EndsBy r w v) where
+    module _ {T : Type 0} (r : Result T Broken) (has : OnOk r (AreSerial w.world v.world.entries)) (way : OnErr r (IsOnTheWay w.world v.world.entries)) (by : EndsBy r w v) where
       serial_whole : end_of r ≡ ends.Whole → IsSerial h.home h.away scripts h
       serial_whole e = whole_run scripts w.world v.world h p.opens p.run p.begins (when_whole r has e) p.uncounted_so
 

@@ -17,7 +17,6 @@ use Rattle.run_turns.proofs.Calling.{session-opened, scripts-opened, entries-ope
 use Rattle.run_state.specs.Entries.{BeginsAs}
 use Rattle.aq_world.specs.Turning.{IsOfRun}
 use Rattle.aq_run.specs.Progress.{AreAt, AreTold}
-use Rattle.aq_run.specs.Rounds.{HasRun}
 use Rattle.aq_run.specs.Serve.{empty_history}
 
 -- the world begins with its openings and these scripts
@@ -53,10 +52,6 @@ told-begun scripts w e = subst AreTold (sym e) (told-opened w.home.opening w.awa
 
 pub scripts-begun : (scripts : List SessionScript) (w : World) → Opens scripts w → AreScripts scripts → AreScripts w.scripts
 scripts-begun scripts w e are = subst AreScripts (sym (ap (λ (x : World). x.scripts) e ∙ scripts-opened w.home.opening w.away.opening scripts)) are
-
--- nothing was done yet
-pub entries-begun : (scripts : List SessionScript) (w : World) → Opens scripts w → w.entries ≡ []
-entries-begun scripts w e = ap (λ (x : World). x.entries) e ∙ entries-opened w.home.opening w.away.opening scripts
 
 -- the tables are still those of the openings
 pub home-begun : (scripts : List SessionScript) (w : World) → Opens scripts w → w.home.tables ≡ w.home.opening
@@ -96,9 +91,8 @@ module _ (scripts : List SessionScript) (old new : World) (h : History) (e : Ope
       subst (λ given. MayBegin h.home h.away given) (sym b.scripts_are ∙ scripts_are)
       (subst (λ t. MayBegin h.home t new.scripts) (sym b.away_is) (subst (λ t. MayBegin t new.away.opening new.scripts) (sym b.home_is) may))
 
-  pub whole_run : HasRun old new → map uncounted h.entries ≡ new.entries → IsSerial h.home h.away scripts h
-  whole_run has entries =
-      let all : AreSerial old new.entries = record { count = has.count; ends = has.ends; steps = has.steps; drains = has.drains; entries_are = has.entries_are } in
+  pub whole_run : AreSerial old new.entries → map uncounted h.entries ≡ new.entries → IsSerial h.home h.away scripts h
+  whole_run all entries =
       record { begins = begins_so; turns = subst (AreSerial (opened h.home h.away scripts)) (sym entries) (subst (λ w. AreSerial w new.entries) start all) }
 
   pub part_run : IsOnTheWay old new.entries → map uncounted h.entries ≡ new.entries → IsSerialFront h.home h.away scripts h

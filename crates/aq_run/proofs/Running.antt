@@ -13,10 +13,10 @@ use Rattle.queue_rows.specs.declared.history.Entry.{Entry}
 use Rattle.queue_rows.specs.declared.history.SessionScript.{SessionScript}
 use Rattle.queue_rows.specs.World.{World}
 use Rattle.queue_rows.specs.Turns.{next_reading, any_live, drained, DrainsIn}
-use Rattle.queue_rows.specs.Serial.{rounds, round, at_closing, next_closing_turn, IsOnTheWay, in_rounds, in_closing}
+use Rattle.queue_rows.specs.Serial.{rounds, round, at_closing, next_closing_turn, AreSerial, IsOnTheWay, in_rounds, in_closing}
 use Rattle.aq_world.specs.Turning.{IsUnclosed}
 use Rattle.aq_run.specs.Progress.{asked, asked_by, AreAt, AreTold}
-use Rattle.aq_run.specs.Rounds.{HasRun, IsClosed}
+use Rattle.aq_run.specs.Rounds.{IsClosed}
 use Rattle.aq_run.proofs.Progress.{is_round, stays_at, one_further, live_within}
 
 -- ---- so many rounds
@@ -47,7 +47,7 @@ way_in_closing start w new a over closed =
     in_closing a.count (ap any_live (sym a.world) ∙ over) closed.0
     (subst (λ v. IsFront new.entries (drained closed.0 (at_closing v)).entries) a.world closed.1)
 
-pub whole_way : (start w new : World) → IsAfter start w → any_live w ≡ false → IsClosed w new → HasRun start new
+pub whole_way : (start w new : World) → IsAfter start w → any_live w ≡ false → IsClosed w new → AreSerial start new.entries
 whole_way start w new a over closed = record {
   count = a.count;
   ends = ap any_live (sym a.world) ∙ over;

@@ -1,13 +1,13 @@
 // The rounds of the serial schedule.
 ghost use Rattle.std.specs.Prelude.{◌≡◌, ◌≤◌, ◌<◌, ◌^◌, ◌+◌, length, OnOk, OnErr, IfErr};
-ghost use Rattle.queue_rows.specs.Order.{IsFront};
 ghost use Rattle.world_laws.specs.ValidWorld.{AreScripts};
-ghost use Rattle.queue_rows.specs.Serial.{next_session_turn, next_timer_turn, next_propagator_turn, session_turns, telling_turns, round, IsOnTheWay};
+ghost use Rattle.queue_rows.specs.Serial.{next_session_turn, next_timer_turn, next_propagator_turn};
+ghost use Rattle.queue_rows.specs.Serial.{session_turns, telling_turns, round, AreSerial, IsOnTheWay};
 ghost use Rattle.queue_rows.specs.Turns.{next_reading, telling_turn};
 ghost use Rattle.aq_world.specs.Turning.{IsUnclosed, IsWhole};
-ghost use Rattle.aq_run.specs.Passing.{EndsBy, IsSerialClock, Passes};
+ghost use Rattle.aq_run.specs.Passing.{EndsBy, IsSerialClock, Passes, Takes};
 ghost use Rattle.aq_run.specs.Progress.{AreAt, AreTold};
-ghost use Rattle.aq_run.specs.Rounds.{HasRun, IsClosed};
+ghost use Rattle.aq_run.specs.Rounds.{IsClosed};
 
 use aq_clock::Clock;
 use aq_disk::Disk;
@@ -39,11 +39,8 @@ fn session_turn<D: Disk, C: Clock>(world: &mut World<D, C>, session: u32) -> Res
     requires few { length world.old.held.world.sessions ≤ 64 }
     requires readings { world.old.held.world.readings < 2 ^ 63 }
     requires clock { IsSerialClock C.given C.plan world.old }
-    ensures world { OnOk result (world.new.held.world ≡ next_session_turn session world.old.held.world) }
-    ensures front { OnErr result
-        (IsFront world.new.held.world.entries (next_session_turn session world.old.held.world).entries) }
+    ensures turn { Takes (next_session_turn session) result world.old world.new }
     ensures passes { Passes D.seen D.is_image D.calls D.faults C.given C.plan world.old world.new }
-    ensures ends { EndsBy result world.old.held world.new.held }
 {
     whole(world.turn(session))
 }
@@ -54,11 +51,8 @@ fn telling_turn<D: Disk, C: Clock>(world: &mut World<D, C>, session: u32) -> Res
     requires few { length world.old.held.world.sessions ≤ 64 }
     requires readings { world.old.held.world.readings < 2 ^ 63 }
     requires clock { IsSerialClock C.given C.plan world.old }
-    ensures world { OnOk result (world.new.held.world ≡ telling_turn session world.old.held.world) }
-    ensures front { OnErr result
-        (IsFront world.new.held.world.entries (telling_turn session world.old.held.world).entries) }
+    ensures turn { Takes (telling_turn session) result world.old world.new }
     ensures passes { Passes D.seen D.is_image D.calls D.faults C.given C.plan world.old world.new }
-    ensures ends { EndsBy result world.old.held world.new.held }
 {
     if world.is_owed(session) {
         session_turn(world, session)
@@ -71,11 +65,8 @@ fn telling_turn<D: Disk, C: Clock>(world: &mut World<D, C>, session: u32) -> Res
 fn session_turns<D: Disk, C: Clock>(world: &mut World<D, C>) -> Result<(), Broken>
     requires readings { world.old.held.world.readings < 2 ^ 62 + 2 ^ 30 }
     requires clock { IsSerialClock C.given C.plan world.old }
-    ensures world { OnOk result (world.new.held.world ≡ session_turns world.old.held.world) }
-    ensures front { OnErr result
-        (IsFront world.new.held.world.entries (session_turns world.old.held.world).entries) }
+    ensures turn { Takes session_turns result world.old world.new }
     ensures passes { Passes D.seen D.is_image D.calls D.faults C.given C.plan world.old world.new }
-    ensures ends { EndsBy result world.old.held world.new.held }
     ensures few { length world.old.held.world.sessions ≤ 64 }
 {
     for session in 0..world.session_count() {
@@ -88,11 +79,8 @@ fn session_turns<D: Disk, C: Clock>(world: &mut World<D, C>) -> Result<(), Broke
 fn telling_turns<D: Disk, C: Clock>(world: &mut World<D, C>) -> Result<(), Broken>
     requires readings { world.old.held.world.readings < 2 ^ 63 }
     requires clock { IsSerialClock C.given C.plan world.old }
-    ensures world { OnOk result (world.new.held.world ≡ telling_turns world.old.held.world) }
-    ensures front { OnErr result
-        (IsFront world.new.held.world.entries (telling_turns world.old.held.world).entries) }
+    ensures turn { Takes telling_turns result world.old world.new }
     ensures passes { Passes D.seen D.is_image D.calls D.faults C.given C.plan world.old world.new }
-    ensures ends { EndsBy result world.old.held world.new.held }
 {
     for session in 0..world.session_count() {
         telling_turn(world, session)?;
@@ -104,11 +92,8 @@ fn telling_turns<D: Disk, C: Clock>(world: &mut World<D, C>) -> Result<(), Broke
 fn timer_turn<D: Disk, C: Clock>(world: &mut World<D, C>) -> Result<(), Broken>
     requires readings { world.old.held.world.readings < 2 ^ 63 }
     requires clock { IsSerialClock C.given C.plan world.old }
-    ensures world { OnOk result (world.new.held.world ≡ next_timer_turn world.old.held.world) }
-    ensures front { OnErr result
-        (IsFront world.new.held.world.entries (next_timer_turn world.old.held.world).entries) }
+    ensures turn { Takes next_timer_turn result world.old world.new }
     ensures passes { Passes D.seen D.is_image D.calls D.faults C.given C.plan world.old world.new }
-    ensures ends { EndsBy result world.old.held world.new.held }
 {
     whole(world.turn(TIMER))
 }
@@ -117,24 +102,20 @@ fn timer_turn<D: Disk, C: Clock>(world: &mut World<D, C>) -> Result<(), Broken>
 fn propagator_turn<D: Disk, C: Clock>(world: &mut World<D, C>) -> Result<(), Broken>
     requires readings { world.old.held.world.readings < 2 ^ 63 }
     requires clock { IsSerialClock C.given C.plan world.old }
-    ensures world { OnOk result (world.new.held.world ≡ next_propagator_turn world.old.held.world) }
-    ensures front { OnErr result
-        (IsFront world.new.held.world.entries (next_propagator_turn world.old.held.world).entries) }
+    ensures turn { Takes next_propagator_turn result world.old world.new }
     ensures passes { Passes D.seen D.is_image D.calls D.faults C.given C.plan world.old world.new }
-    ensures ends { EndsBy result world.old.held world.new.held }
 {
     whole(world.turn(PROPAGATOR))
 }
 
-/// A round of the serial schedule: a turn of each session, of the timer and of the propagator, and then what was called is told.
+/// A round of the serial schedule: a turn of each session, of the timer and of the propagator, and then what
+/// was called is told.
 #[tactic(auto, unfolding(queue_rows::specs::Serial::round))]
 fn round<D: Disk, C: Clock>(world: &mut World<D, C>) -> Result<(), Broken>
     requires readings { world.old.held.world.readings < 2 ^ 62 + 2 ^ 30 }
     requires clock { IsSerialClock C.given C.plan world.old }
-    ensures world { OnOk result (world.new.held.world ≡ round world.old.held.world) }
-    ensures front { OnErr result (IsFront world.new.held.world.entries (round world.old.held.world).entries) }
+    ensures turn { Takes round result world.old world.new }
     ensures passes { Passes D.seen D.is_image D.calls D.faults C.given C.plan world.old world.new }
-    ensures ends { EndsBy result world.old.held world.new.held }
     ensures few { length world.old.held.world.sessions ≤ 64 }
 {
     session_turns(world)?;
@@ -156,21 +137,21 @@ fn close<D: Disk, C: Clock>(world: &mut World<D, C>) -> Result<(), Broken>
     whole(world.closing())
 }
 
-/// Rounds while a session goes on, and then the closing turn. Where it is broken off the entries are the first ones of what they were
-/// to be.
+/// Rounds while a session goes on, and then the closing turn. Where it is broken off the entries are the
+/// first ones of what they were to be.
 pub fn run<D: Disk, C: Clock>(world: &mut World<D, C>) -> Result<(), Broken>
     requires readings { world.old.held.world.readings ≡ 0 }
     requires clock { IsSerialClock C.given C.plan world.old }
     requires at { AreAt 0 world.old.held.world }
     requires told { AreTold world.old.held.world }
     requires scripts { AreScripts world.old.held.world.scripts }
-    ensures whole { OnOk result (HasRun world.old.held.world world.new.held.world) }
+    ensures whole { OnOk result (AreSerial world.old.held.world world.new.held.world.entries) }
     ensures front { OnErr result (IsOnTheWay world.old.held.world world.new.held.world.entries) }
     ensures passes { Passes D.seen D.is_image D.calls D.faults C.given C.plan world.old world.new }
     ensures ends { EndsBy result world.old.held world.new.held }
 {
-    // Each round takes a reading. At the greatest moment no statement waits: then in each round a session that goes on calls a statement,
-    // and in one more it ends.
+    // Each round takes a reading. At the greatest moment no statement waits: then in each round a session
+    // that goes on calls a statement, and in one more it ends.
     while world.any_live() {
         round(world)?;
     }

@@ -21,18 +21,18 @@ pub loop-world-preserved : goal.loop-world-preserved
 loop-world-preserved g c =
     let live : any_live c.loop-world.world.held.world ≡ true = sym c.any_live.ensures ∙ c.loop-world-test.true in
     record {
-      after = after_next c.args.world.now.held.world c.loop-world.world.held.world c.round.new.world.held.world c.loop-world.invariant.after c.in_ok-round.ensures.world;
-      time = on_time_next c.loop-world.world.held.world c.round.new.world.held.world c.loop-world.invariant.time live c.round.ensures.few c.in_ok-round.ensures.world;
+      after = after_next c.args.world.now.held.world c.loop-world.world.held.world c.round.new.world.held.world c.loop-world.invariant.after c.in_ok-round.ensures.turn.world;
+      time = on_time_next c.loop-world.world.held.world c.round.new.world.held.world c.loop-world.invariant.time live c.round.ensures.few c.in_ok-round.ensures.turn.world;
       passes = passes-trans g.D.Disk.seen g.D.Disk.is_image g.D.Disk.calls g.D.Disk.faults g.C.Clock.given g.C.Clock.plan c.args.world.now c.loop-world.world c.round.new.world c.loop-world.invariant.passes c.round.ensures.passes;
-      fine = λ failed. c.loop-world.invariant.fine (c.in_ok-round.ensures.ends failed);
+      fine = λ failed. c.loop-world.invariant.fine (c.in_ok-round.ensures.turn.ends failed);
     }
 
 pub loop-world-smaller : goal.loop-world-smaller
-loop-world-smaller g c = left_less c.loop-world.world.held.world c.round.new.world.held.world c.loop-world.invariant.time (sym c.any_live.ensures ∙ c.loop-world-test.true) c.in_ok-round.ensures.world
+loop-world-smaller g c = left_less c.loop-world.world.held.world c.round.new.world.held.world c.loop-world.invariant.time (sym c.any_live.ensures ∙ c.loop-world-test.true) c.in_ok-round.ensures.turn.world
 
 pub returns-in_err-round-clause-front : goal.returns-in_err-round-clause-front
 returns-in_err-round-clause-front g c =
-    on_err c.from_residual.result (way_in_round c.args.world.now.held.world c.loop-world.world.held.world c.round.new.world.held.world.entries c.loop-world.invariant.after c.in_err-round.ensures.front)
+    on_err c.from_residual.result (way_in_round c.args.world.now.held.world c.loop-world.world.held.world c.round.new.world.held.world.entries c.loop-world.invariant.after c.in_err-round.ensures.turn.front)
 
 pub returns-in_err-round-clause-passes : goal.returns-in_err-round-clause-passes
 returns-in_err-round-clause-passes g c = passes-trans g.D.Disk.seen g.D.Disk.is_image g.D.Disk.calls g.D.Disk.faults g.C.Clock.given g.C.Clock.plan c.args.world.now c.loop-world.world c.round.new.world c.loop-world.invariant.passes c.round.ensures.passes

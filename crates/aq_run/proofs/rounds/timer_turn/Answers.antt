@@ -1,22 +1,15 @@
-use Rattle.aq_run.proofs.Clocking.{turn_world, turn_front, turn_clock}
-use Rattle.aq_run.proofs.Closing.{turn_run, timer_run, turn_ends}
-use Rattle.aq_run.proofs.Results.{ok_from, err_from}
+use Rattle.std.proofs.Common.{refl}
+use Rattle.queue_rows.specs.Serial.{next_timer_turn}
+use Rattle.aq_run.proofs.Closing.{timer_run}
+use Rattle.aq_run.proofs.Taking.{takes_turned, passes_turned}
 use Rattle.aq_run.proofs.rounds.timer_turn.Goals as goal
 
-pub returns-clause-world : goal.returns-clause-world
-returns-clause-world g c = ok_from c.whole.result c.whole.ensures.whole (turn_world g.C.Clock.given g.C.Clock.plan c.args.world.now c.turn.new.self c.requires.clock 64 c.turn.result c.turn.ensures.turn)
-
-pub returns-clause-front : goal.returns-clause-front
-returns-clause-front g c = err_from c.whole.result c.whole.ensures.broken (turn_front g.C.Clock.given g.C.Clock.plan c.args.world.now c.turn.new.self c.requires.clock 64 c.turn.result c.turn.ensures.turn)
+pub returns-clause-turn : goal.returns-clause-turn
+returns-clause-turn g c =
+    takes_turned g.C.Clock.given g.C.Clock.plan 64 c.args.world.now c.turn.new.self c.turn.result c.turn.ensures.turn next_timer_turn c.whole.result
+    c.requires.clock refl c.whole.ensures.whole c.whole.ensures.broken c.whole.ensures.halted c.turn.ensures.halted c.turn.ensures.fine
 
 pub returns-clause-passes : goal.returns-clause-passes
 returns-clause-passes g c =
-    let run = turn_run g.C.Clock.given g.C.Clock.plan 64 c.args.world.now c.turn.new.self c.turn.result (timer_run c.args.world.now.held.world) c.turn.ensures.turn in
-    record {
-      run = run;
-      disks = c.turn.ensures.disks;
-      clock = λ on. turn_clock g.C.Clock.given g.C.Clock.plan c.args.world.now c.turn.new.self run on 64 c.turn.result c.turn.ensures.turn;
-    }
-
-pub returns-clause-ends : goal.returns-clause-ends
-returns-clause-ends g c = turn_ends c.turn.result c.whole.result c.args.world.now.held c.turn.new.self.held c.whole.ensures.whole c.whole.ensures.halted c.turn.ensures.halted c.turn.ensures.fine
+    passes_turned g.C.Clock.given g.C.Clock.plan 64 c.args.world.now c.turn.new.self c.turn.result c.turn.ensures.turn g.D.Disk.seen g.D.Disk.is_image g.D.Disk.calls g.D.Disk.faults
+    (timer_run c.args.world.now.held.world) c.turn.ensures.disks
