@@ -1,5 +1,5 @@
 -- What the bytes that were read say, and what is left to answer where nothing stands in the way.
-use Rattle.std.proofs.Common.{◌≡◌, ◌⊎◌, inl, inr, ℕ, zero, suc, ◌+◌, ◌<◌, ◌≤◌, ◌++◌, Bool, true, false, List, [], ◌∷◌, Option, Some, None, Result, Ok, Err, refl, sym, ap, subst, ◌∙◌, arith, length, length-append, length-take, take}
+use Rattle.std.proofs.Common.{◌≡◌, ◌⊎◌, inl, inr, ℕ, zero, suc, ◌+◌, ◌<◌, ◌≤◌, Bool, true, false, List, [], ◌∷◌, Option, Some, None, Result, Ok, Err, refl, sym, ap, subst, ◌∙◌, arith, length, length-append, length-take, take}
 use Rattle.std.specs.Prelude.{IfSome, IfOk, IsSome, is_some, min, nat_le, if◌then◌else◌}
 use Rattle.std.proofs.lemmas.Bool.{false≢true, leb-true}
 use Rattle.std.specs.Io.KnownBytes.{Consumes}
@@ -11,7 +11,7 @@ use Rattle.queue_rows.specs.declared.history.SessionScript.{SessionScript}
 use Rattle.script_text.specs.Script.{lines_of, past_limit, script, then_on, with_lines}
 use Rattle.aq_world.specs.Mounting.{IsDamagedAt}
 use Rattle.aq_run.specs.Disks.{FailsEither, IsFirstDamaged}
-use Rattle.aq_run.specs.Serve.{AnswersBad, AnswersDamaged, CanServe, HasScript, HasTables, IsReadWhole, IsRun, ReadsBytes}
+use Rattle.aq_run.specs.Serve.{AnswersBad, AnswersDamaged, CanServe, HasTables, IsRun, IsStopped, ReadsBytes}
 use Rattle.aq_run.specs.declared.command.Command.{Command}
 use Rattle.aq_run.specs.declared.command.Command.TheVariants.{Dump, RunSerial}
 
@@ -29,13 +29,6 @@ within_if false bytes scripts e is = past_never _ _ scripts is
 pub script_within : (bytes : List ℕ) (scripts : List SessionScript) → script bytes ≡ Ok scripts → length bytes ≤ 67108864
 unfolding script
 script_within bytes scripts is = within_if (nat_le (length bytes) INPUT_LIMIT) bytes scripts refl is
-
--- a call that ended before the disks were looked at
-pub not_whole : {P : Type 0} (s : ℕ) → 1 ≤ s → s ≤ 4 → IsReadWhole s → P
-not_whole s some few (inl e) = absurd (omega (arith, some, e))
-not_whole s some few (inr (inl e)) = absurd (omega (arith, few, e))
-not_whole s some few (inr (inr (inl e))) = absurd (omega (arith, few, e))
-not_whole s some few (inr (inr (inr e))) = absurd (omega (arith, few, e))
 
 -- ---- nothing is left of a source whose script was read whole
 
@@ -92,24 +85,14 @@ module _ {I S D : Type 0} {command : Option Command} {left : I → Option (List 
 
 -- ---- the statuses of a run and of a dump
 
-pub run_known : (s : ℕ) → IsRun s ⊎ ((s ≡ 2) ⊎ ((s ≡ 3) ⊎ ((s ≡ 4) ⊎ ((s ≡ 5) ⊎ (s ≡ 6))))) → (s ≤ 7) × (s ≡ 1 → ⊥)
-run_known s (inl (inl e)) = (omega (arith, e), λ o. omega (arith, e, o))
-run_known s (inl (inr e)) = (omega (arith, e), λ o. omega (arith, e, o))
-run_known s (inr (inl e)) = (omega (arith, e), λ o. omega (arith, e, o))
-run_known s (inr (inr (inl e))) = (omega (arith, e), λ o. omega (arith, e, o))
-run_known s (inr (inr (inr (inl e)))) = (omega (arith, e), λ o. omega (arith, e, o))
-run_known s (inr (inr (inr (inr (inl e))))) = (omega (arith, e), λ o. omega (arith, e, o))
-run_known s (inr (inr (inr (inr (inr e))))) = (omega (arith, e), λ o. omega (arith, e, o))
+pub run_known : (s : ℕ) → IsRun s ⊎ ((s ≡ 2) ⊎ ((s ≡ 3) ⊎ IsStopped s)) → (s ≤ 7) × (s ≡ 1 → ⊥)
+run_known s known = (omega (arith, known), λ one. omega (arith, known, one))
 
-pub dump_known : (s : ℕ) → IsRun s ⊎ ((s ≡ 4) ⊎ ((s ≡ 5) ⊎ (s ≡ 6))) → (s ≤ 7) × ((1 ≤ s → s ≤ 3 → ⊥))
-dump_known s (inl (inl e)) = (omega (arith, e), λ o p. omega (arith, e, o, p))
-dump_known s (inl (inr e)) = (omega (arith, e), λ o p. omega (arith, e, o, p))
-dump_known s (inr (inl e)) = (omega (arith, e), λ o p. omega (arith, e, o, p))
-dump_known s (inr (inr (inl e))) = (omega (arith, e), λ o p. omega (arith, e, o, p))
-dump_known s (inr (inr (inr e))) = (omega (arith, e), λ o p. omega (arith, e, o, p))
+pub dump_known : (s : ℕ) → IsRun s ⊎ IsStopped s → s ≤ 7
+dump_known s known = omega (arith, known)
 
-pub dump_none : {P : Type 0} (s n : ℕ) → IsRun s ⊎ ((s ≡ 4) ⊎ ((s ≡ 5) ⊎ (s ≡ 6))) → 1 ≤ n → n ≤ 3 → s ≡ n → P
-dump_none s n known some few e = absurd ((dump_known s known).1 (omega (arith, some, e)) (omega (arith, few, e)))
+pub dump_none : {P : Type 0} (s n : ℕ) → IsRun s ⊎ IsStopped s → 1 ≤ n → n ≤ 3 → s ≡ n → P
+dump_none s n known some few e = absurd (omega (arith, known, some, few, e))
 
 -- ---- what was read
 

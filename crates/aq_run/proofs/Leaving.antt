@@ -8,7 +8,7 @@ use Rattle.aq_world.specs.declared.mount.MountCause.{MountCause}
 use Rattle.aq_world.specs.declared.mount.MountCause.TheVariants.{Fault, Damaged, Memory}
 use Rattle.aq_world.specs.declared.mount.MountFault.{MountFault}
 use Rattle.aq_run.specs.Disks.{FailsEither, FailsNeither, IsFaultCause, IsUnmounted}
-use Rattle.aq_run.specs.Serve.{empty_history, AnswersDamaged, LeavesDisks, TellsCause}
+use Rattle.aq_run.specs.Serve.{empty_history, AnswersDamaged, IsStopped, LeavesDisks, TellsCause}
 use Rattle.aq_run.specs.declared.outcome.Outcome.{Outcome}
 use Rattle.aq_run.proofs.Surviving.{kept_same, kept_run, not_failed}
 
@@ -39,18 +39,12 @@ damage_told taken sink_faults old new seen faults Memory home away home_after aw
 -- ---- statuses
 
 none_fine : {P : Type 0} (s : ℕ) → 1 ≤ s → s ≤ 4 → (s ≡ 0) ⊎ ((s ≡ 6) ⊎ (s ≡ 7)) → P
-none_fine s some few (inl e) = absurd (omega (arith, some, e))
-none_fine s some few (inr (inl e)) = absurd (omega (arith, few, e))
-none_fine s some few (inr (inr e)) = absurd (omega (arith, few, e))
+none_fine s some few is = absurd (omega (arith, some, few, is))
 
-damaged_fine : {P : Type 0} (s : ℕ) → (s ≡ 4) ⊎ ((s ≡ 5) ⊎ (s ≡ 6)) → (s ≡ 6 → P) → (s ≡ 0) ⊎ ((s ≡ 6) ⊎ (s ≡ 7)) → P
-damaged_fine s (inl k) f (inl e) = absurd (omega (arith, k, e))
-damaged_fine s (inr (inl k)) f (inl e) = absurd (omega (arith, k, e))
-damaged_fine s (inr (inr k)) f (inl e) = absurd (omega (arith, k, e))
-damaged_fine s k f (inr (inl e)) = f e
-damaged_fine s (inl k) f (inr (inr e)) = absurd (omega (arith, k, e))
-damaged_fine s (inr (inl k)) f (inr (inr e)) = absurd (omega (arith, k, e))
-damaged_fine s (inr (inr k)) f (inr (inr e)) = absurd (omega (arith, k, e))
+damaged_fine : {P : Type 0} (s : ℕ) → IsStopped s → (s ≡ 6 → P) → (s ≡ 0) ⊎ ((s ≡ 6) ⊎ (s ≡ 7)) → P
+damaged_fine s known f (inl e) = absurd (omega (arith, known, e))
+damaged_fine s known f (inr (inl e)) = f e
+damaged_fine s known f (inr (inr e)) = absurd (omega (arith, known, e))
 
 module _ {D C : Type 0} (seen : D → Option (List ℕ)) (images : D → ℕ → List ℕ → Type 0) (calls faults : D → ℕ) (home away : D) where
   -- the disks were not called
@@ -65,7 +59,7 @@ module _ {D C : Type 0} (seen : D → Option (List ℕ)) (images : D → ℕ →
   }
 
   -- the databases were not mounted
-  pub leaves_unmounted : {B : Type 0} (fault : MountFault D B) (o : Outcome D C) → IsUnmounted seen images calls faults home away fault → (o.status ≡ 4) ⊎ ((o.status ≡ 5) ⊎ (o.status ≡ 6)) → (o.status ≡ 5 → IsFaultCause fault.cause)
+  pub leaves_unmounted : {B : Type 0} (fault : MountFault D B) (o : Outcome D C) → IsUnmounted seen images calls faults home away fault → IsStopped o.status → (o.status ≡ 5 → IsFaultCause fault.cause)
       → {S : Type 0} (taken : S → Option (List ℕ)) (sink_faults : S → ℕ) (old new : S) → (o.status ≡ 6 → TellsCause taken sink_faults old new fault.cause)
       → o.history ≡ empty_history → o.home ≡ fault.home → o.away ≡ fault.away → LeavesDisks seen images calls faults home away o
   leaves_unmounted fault o u known fails taken sink_faults old new tells empty home_is away_is = record {

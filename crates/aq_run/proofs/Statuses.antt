@@ -13,14 +13,11 @@ halted_known true = inr (inl refl)
 halted_known false = inr (inr refl)
 
 no_run : {P : Type 0} (b : Bool) → IsRun (halted b) → P
-no_run true (inl e) = absurd (omega (arith, e))
-no_run true (inr e) = absurd (omega (arith, e))
-no_run false (inl e) = absurd (omega (arith, e))
-no_run false (inr e) = absurd (omega (arith, e))
+no_run true is = absurd (omega (arith, is))
+no_run false is = absurd (omega (arith, is))
 
 no_four : {P : Type 0} → IsRun 4 → P
-no_four (inl e) = absurd (omega (arith, e))
-no_four (inr e) = absurd (omega (arith, e))
+no_four is = absurd (omega (arith, is))
 
 known_as : (written : ℕ) → IsRun written ⊎ (written ≡ 4) → IsRun written ⊎ ((written ≡ 4) ⊎ (written ≡ 5))
 known_as written (inl run) = inl run
@@ -44,9 +41,7 @@ pub status_ran : (end : RunEnd) (written s : ℕ) → s ≡ status_of end writte
 status_ran end written s e is = let r = ran_at end written (subst IsRun e is) in (r.0, sym r.1 ∙ sym e)
 
 not_five : {P : Type 0} (written : ℕ) → IsRun written ⊎ (written ≡ 4) → written ≡ 5 → P
-not_five written (inl (inl e)) is = absurd (omega (arith, e, is))
-not_five written (inl (inr e)) is = absurd (omega (arith, e, is))
-not_five written (inr e) is = absurd (omega (arith, e, is))
+not_five written known is = absurd (omega (arith, known, is))
 
 not_written : (b : Bool) (written : ℕ) → (written == 4) ≡ b → halted b ≡ 5 → written ≡ 4 → ⊥
 not_written true written e is = λ _. omega (arith, is)

@@ -72,6 +72,10 @@ empty_history = record { home = empty_tables; away = empty_tables; opening = 0; 
 abbrev pub IsRun : ℕ → Type 0
 IsRun status = (status ≡ 0) ⊎ (status ≡ 7)
 
+-- memory ran out, a disk failed, or a disk is damaged
+abbrev pub IsStopped : ℕ → Type 0
+IsStopped status = (status ≡ 4) ⊎ ((status ≡ 5) ⊎ (status ≡ 6))
+
 -- the script was read whole: it was run, or one of the disks stood in the way
 abbrev pub IsReadWhole : ℕ → Type 0
 IsReadWhole status = (status ≡ 0) ⊎ ((status ≡ 5) ⊎ ((status ≡ 6) ⊎ (status ≡ 7)))
@@ -91,6 +95,14 @@ WritesFront taken old new text = (n : ℕ) × (n ≤ length text) × Appends (ta
 abbrev pub Tells : {S : Type 0} → (S → Option (List ℕ)) → (S → ℕ) → S → S → List ℕ → Type 0
 Tells taken faults old new text = Appends (taken old) (taken new) text ⊎ (WritesFront taken old new text × Rose (faults old) (faults new))
 
+-- What the status of a call says of a text that it was to write. Some first bytes were written: at 0 all, and at 4 none, for want of memory.
+-- At 7 the sink failed.
+pub record Writes {S : Type 0} (taken : S → Option (List ℕ)) (faults : S → ℕ) (old new : S) (text : List ℕ) (status : ℕ) : Type 0 where
+  pub whole : status ≡ 0 → Appends (taken old) (taken new) text
+  pub front : WritesFront taken old new text
+  pub fault : status ≡ 7 → Rose (faults old) (faults new)
+  pub nothing : status ≡ 4 → taken new ≡ taken old
+
 -- ---- what holds of a history
 
 -- What the laws of legal histories say of it: each commit fits the tables that those before it leave; each slot of each message has one
@@ -108,6 +120,14 @@ pub record HoldsOf (h : History) : Type 0 where
 abbrev pub LegalHolds : Type 0
 LegalHolds = (home away : Tables) (scripts : List SessionScript) (h : History) → MayBegin home away scripts
     → IsLegalHistory home away scripts h → HoldsOf h
+
+-- the call reached no run, and gives back these disks and this clock
+pub record ReachesNoRun {D C : Type 0} (home away : D) (clock : C) (o : Outcome D C) : Type 0 where
+  pub history : o.history ≡ empty_history
+  pub holds : HoldsOf o.history
+  pub home_is : o.home ≡ home
+  pub away_is : o.away ≡ away
+  pub clock_is : o.clock ≡ clock
 
 -- All was done: each session has its End; legal steps led to a world in which no session goes on, every commit is durable, nothing is due
 -- and nothing can be sent; and so many commits were made durable as were made.
@@ -227,22 +247,29 @@ pub record LeavesDisks {D C : Type 0} (seen : D → Option (List ℕ)) (images :
   pub failed : o.status ≡ 5 → FailsEither faults home away o.home o.away
   pub fine : (o.status ≡ 0) ⊎ ((o.status ≡ 6) ⊎ (o.status ≡ 7)) → FailsNeither faults home away o.home o.away
 
--- ---- runs
+-- ---- what a run and a dump answer
 
--- What a run answers, whatever script it is of: what is written, where it is damaged, and what is left of the disks.
-pub record AnswersRun {S D C : Type 0} (taken : S → Option (List ℕ)) (sink_faults : S → ℕ) (seen : D → Option (List ℕ)) (images : D → ℕ → List ℕ → Type 0) (calls faults : D → ℕ) (old new : S) (home away : D) (o : Outcome D C) : Type 0 where
-  pub whole : o.status ≡ 0 → Appends (taken old) (taken new) (print o.history)
-  pub part : (o.status ≡ 4) ⊎ (o.status ≡ 7) → WritesFront taken old new (print o.history)
-  pub at_fault : o.status ≡ 5 → Tells taken sink_faults old new (print o.history)
-  pub write_fault : o.status ≡ 7 → Rose (sink_faults old) (sink_faults new)
-  pub damaged : o.status ≡ 6 → AnswersDamaged taken sink_faults old new seen home away
-  pub recovered : IsRun o.status → IsRecovered seen home × IsRecovered seen away
-  pub empty : (o.status ≡ 2) ⊎ ((o.status ≡ 3) ⊎ (o.status ≡ 6)) → o.history ≡ empty_history
-  pub holds : HoldsOf o.history
-  pub done : IsRun o.status → IsAllDoneAfter o.history
-  pub disks : LeavesDisks seen images calls faults home away o
-  pub home_whole : IsRun o.status → LeavesWhole seen images calls Home home o.home o.history
-  pub away_whole : IsRun o.status → LeavesWhole seen images calls Away away o.away o.history
+module _ {S D C : Type 0} (taken : S → Option (List ℕ)) (sink_faults : S → ℕ) (seen : D → Option (List ℕ)) (images : D → ℕ → List ℕ → Type 0) (calls faults : D → ℕ) (old new : S) (home away : D) (o : Outcome D C) where
+  -- both alike: what is told of damage and of a write that failed, what holds of the history, and what is left of the disks
+  pub record AnswersCall : Type 0 where
+    pub write_fault : o.status ≡ 7 → Rose (sink_faults old) (sink_faults new)
+    pub damaged : o.status ≡ 6 → AnswersDamaged taken sink_faults old new seen home away
+    pub recovered : IsRun o.status → IsRecovered seen home × IsRecovered seen away
+    pub holds : HoldsOf o.history
+    pub disks : LeavesDisks seen images calls faults home away o
+
+  -- a run, whatever script it is of: that, what is written of its history, and what a whole run leaves
+  pub record AnswersRun : Type 0 where
+    pub call : AnswersCall
+    pub whole : o.status ≡ 0 → Appends (taken old) (taken new) (print o.history)
+    pub part : (o.status ≡ 4) ⊎ (o.status ≡ 7) → WritesFront taken old new (print o.history)
+    pub at_fault : o.status ≡ 5 → Tells taken sink_faults old new (print o.history)
+    pub empty : (o.status ≡ 2) ⊎ ((o.status ≡ 3) ⊎ (o.status ≡ 6)) → o.history ≡ empty_history
+    pub done : IsRun o.status → IsAllDoneAfter o.history
+    pub home_whole : IsRun o.status → LeavesWhole seen images calls Home home o.home o.history
+    pub away_whole : IsRun o.status → LeavesWhole seen images calls Away away o.away o.history
+
+-- ---- runs
 
 -- how a run ended
 abbrev pub end_of : {T : Type 0} → Result T Broken → RunEnd

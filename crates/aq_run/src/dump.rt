@@ -1,12 +1,11 @@
 // The tables of both databases, printed.
 ghost use Rattle.std.specs.Prelude.{◌≡◌, ◌⊎◌};
 ghost use Rattle.std.specs.Io.KnownBytes.{Appends};
-ghost use Rattle.aq_base.specs.Causes.{Rose};
-ghost use Rattle.aq_run.specs.Serve.{empty_history, dump_text, AnswersDamaged, AnswersDump, HoldsOf, IsRun, LeavesDisks, WritesFront};
+ghost use Rattle.aq_run.specs.Serve.{empty_history, dump_text, AnswersCall, AnswersDump, IsRun, IsStopped};
+ghost use Rattle.aq_run.specs.Serve.{ReachesNoRun, Writes, WritesFront};
 
 use crate::outcome::Outcome;
-use crate::play::legal_holds;
-use crate::unbegun::{empty_history, unmounted};
+use crate::unbegun::{unmounted, without_run};
 use crate::writing::show_tables;
 use aq_base::{DbId, Sink};
 use aq_clock::{Clock, StepClock};
@@ -23,16 +22,9 @@ fn shown<O: Sink, D: Disk, C: Clock>(
     clock: C,
 ) -> Outcome<D, C>
     ensures known { IsRun result.status ⊎ (result.status ≡ 4) }
-    ensures whole { result.status ≡ 0 → Appends (O.taken out.old) (O.taken out.new)
-        (dump_text world.held.world.home.tables world.held.world.away.tables) }
-    ensures part { result.status ≡ 7 → WritesFront O.taken out.old out.new
-        (dump_text world.held.world.home.tables world.held.world.away.tables) }
-    ensures nothing { result.status ≡ 4 → O.taken out.new ≡ O.taken out.old }
-    ensures write_fault { result.status ≡ 7 → Rose (O.faults out.old) (O.faults out.new) }
-    ensures history { result.history ≡ empty_history }
-    ensures home { result.home ≡ world.held.home.disk }
-    ensures away { result.away ≡ world.held.away.disk }
-    ensures clock { result.clock ≡ clock }
+    ensures writes { Writes O.taken O.faults out.old out.new
+        (dump_text world.held.world.home.tables world.held.world.away.tables) result.status }
+    ensures none { ReachesNoRun world.held.home.disk world.held.away.disk clock result }
 {
     let status = show_tables(
         alloc,
@@ -46,13 +38,7 @@ fn shown<O: Sink, D: Disk, C: Clock>(
         away,
         clock: _,
     } = world.finish();
-    Outcome {
-        status,
-        history: empty_history(alloc),
-        home,
-        away,
-        clock,
-    }
+    without_run(alloc, status, home, away, clock)
 }
 
 /// Prints the tables of the databases of the two disks.
@@ -63,21 +49,16 @@ pub fn dump<O: Sink, D: Disk, C: Clock>(
     away: D,
     clock: C,
 ) -> Outcome<D, C>
-    ensures known { IsRun result.status
-        ⊎ ((result.status ≡ 4) ⊎ ((result.status ≡ 5) ⊎ (result.status ≡ 6))) }
+    ensures known { IsRun result.status ⊎ IsStopped result.status }
     ensures whole { result.status ≡ 0
         → AnswersDump D.seen home away (Appends (O.taken out.old) (O.taken out.new)) }
     ensures part { result.status ≡ 7 → AnswersDump D.seen home away (WritesFront O.taken out.old out.new) }
     ensures nothing { (result.status ≡ 4) ⊎ (result.status ≡ 5) → O.taken out.new ≡ O.taken out.old }
-    ensures write_fault { result.status ≡ 7 → Rose (O.faults out.old) (O.faults out.new) }
-    ensures damaged { result.status ≡ 6
-        → AnswersDamaged O.taken O.faults out.old out.new D.seen home away }
     ensures history { result.history ≡ empty_history }
-    ensures holds { HoldsOf result.history }
-    ensures disks { LeavesDisks D.seen D.is_image D.calls D.faults home away result }
+    ensures call { AnswersCall O.taken O.faults D.seen D.is_image D.calls D.faults
+        out.old out.new home away result }
     ensures clock { result.clock ≡ clock }
 {
-    legal_holds();
     match World::mount_serial(alloc, home, away, List::new(alloc)) {
         Ok(world) => shown(alloc, out, world, clock),
         Err(fault) => unmounted(alloc, out, fault, clock),

@@ -68,7 +68,8 @@ fn end_of(run: Result<(), Broken>) -> RunEnd
     }
 }
 
-/// The serial run of these scripts over the databases of two disks, as far as it came; `Err` where they were not mounted.
+/// The serial run of these scripts over the databases of two disks, as far as it came; `Err` where they were
+/// not mounted.
 pub fn play<D: Disk>(
     alloc: Global,
     scripts: List<SessionScript>,

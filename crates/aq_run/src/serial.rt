@@ -1,12 +1,13 @@
 // Serial runs of scripts.
-ghost use Rattle.std.specs.Prelude.{◌≡◌, ◌⊎◌, ◌≤◌, ℕ, List as Sequence, [], length, Some, Err, IfOk, IfSome, IsErrOf};
-ghost use Rattle.std.specs.Io.KnownBytes.{Appends};
+ghost use Rattle.std.specs.Prelude.{◌≡◌, ◌⊎◌, ℕ, List as Sequence, [], Some, Ok, Err};
+ghost use Rattle.std.specs.Prelude.{IfOk, IfErr, IfSome, IsErrOf};
 ghost use Rattle.aq_base.specs.Causes.{Rose};
-ghost use Rattle.transcript.specs.Print.{print};
+ghost use Rattle.queue_rows.specs.declared.history.SessionScript.{SessionScript};
 ghost use Rattle.script_text.specs.Readable.{AreReadable};
-ghost use Rattle.script_text.specs.Script.{script};
-ghost use Rattle.aq_run.specs.Serve.{empty_history, status_of, AnswersBad, AnswersBytes, AnswersFront, AnswersRun};
-ghost use Rattle.aq_run.specs.Serve.{IsFrontBy, IsReadWhole, IsRun, IsRunBy, IsRunOf, IsUnread, ReadsBytes, Tells, WritesFront};
+ghost use Rattle.script_text.specs.Script.{script, IsFaultOf};
+ghost use Rattle.aq_run.specs.Serve.{empty_history, status_of, AnswersBad, AnswersBytes, AnswersFront};
+ghost use Rattle.aq_run.specs.Serve.{AnswersRun, IsFrontBy, IsReadWhole, IsRun, IsRunBy, IsRunOf, IsStopped};
+ghost use Rattle.aq_run.specs.Serve.{IsUnread, PlaysOver, ReadsBytes};
 
 use crate::outcome::Outcome;
 use crate::play::{Played, RunEnd, play};
@@ -30,7 +31,8 @@ fn status_of(end: RunEnd, written: u8) -> u8
     }
 }
 
-/// A run, printed as far as it came.
+/// A run, printed as far as it came. What it answers, it answers of the disks and scripts that it was played
+/// with.
 fn printed<O: Sink, D: Disk, C: Clock>(
     alloc: Global,
     out: &mut O,
@@ -39,14 +41,11 @@ fn printed<O: Sink, D: Disk, C: Clock>(
 ) -> Outcome<D, C>
     ensures known { IsRun result.status ⊎ ((result.status ≡ 4) ⊎ (result.status ≡ 5)) }
     ensures ran { IsRun result.status → played.end ≡ RunEnd.Whole }
-    ensures halted { result.status ≡ 5 → played.end ≡ RunEnd.Halted }
-    ensures whole { result.status ≡ 0 → Appends (O.taken out.old) (O.taken out.new) (print result.history) }
-    ensures part { WritesFront O.taken out.old out.new (print result.history) }
-    ensures at_fault { result.status ≡ 5 → Tells O.taken O.faults out.old out.new (print result.history) }
-    ensures write_fault { result.status ≡ 7 → Rose (O.faults out.old) (O.faults out.new) }
     ensures history { result.history ≡ played.history }
-    ensures home { result.home ≡ played.home }
-    ensures away { result.away ≡ played.away }
+    ensures run { (home away : D) (scripts : Sequence SessionScript)
+        → PlaysOver D.seen D.is_image D.calls D.faults home away scripts played
+        → AnswersRun O.taken O.faults D.seen D.is_image D.calls D.faults
+        out.old out.new home away result }
     ensures clock { result.clock ≡ clock }
 {
     let Played {
@@ -75,10 +74,9 @@ fn run_serial<O: Sink, D: Disk, C: Clock>(
     clock: C,
 ) -> Outcome<D, C>
     requires { AreReadable scripts }
-    ensures known { IsRun result.status
-        ⊎ ((result.status ≡ 4) ⊎ ((result.status ≡ 5) ⊎ (result.status ≡ 6))) }
+    ensures known { IsRun result.status ⊎ IsStopped result.status }
     ensures history { IsRun result.status → IsRunBy D.seen home away scripts result.history }
-    ensures first { (result.status ≡ 4) ⊎ (result.status ≡ 5)
+    ensures front { (result.status ≡ 4) ⊎ (result.status ≡ 5)
         → (result.history ≡ empty_history) ⊎ IsFrontBy D.seen home away scripts result.history }
     ensures run { AnswersRun O.taken O.faults D.seen D.is_image D.calls D.faults
         out.old out.new home away result }
@@ -90,29 +88,33 @@ fn run_serial<O: Sink, D: Disk, C: Clock>(
     }
 }
 
+/// The script that these bytes are. They are dropped then: a run holds its statements, and needs them no
+/// more.
+fn read_script(alloc: Global, bytes: Vec<u8>) -> Result<List<SessionScript>, ScriptFault>
+    ensures ok { IfOk result (λ sessions. script bytes.items ≡ Ok sessions) }
+    ensures bad { IfErr result (λ fault. IsFaultOf fault (script bytes.items)) }
+    ensures readable { IfOk result AreReadable }
+{
+    read(alloc, &bytes)
+}
+
 /// The run of the script that these bytes are.
 fn run_bytes<O: Sink, D: Disk, C: Clock>(
     alloc: Global,
-    bytes: &[u8],
+    bytes: Vec<u8>,
     out: &mut O,
     home: D,
     away: D,
     clock: C,
 ) -> Outcome<D, C>
-    ensures known { IsRun result.status ⊎ ((result.status ≡ 2)
-        ⊎ ((result.status ≡ 4) ⊎ ((result.status ≡ 5) ⊎ (result.status ≡ 6)))) }
-    ensures bad { result.status ≡ 2 → AnswersBad O.taken O.faults out.old out.new bytes.now }
-    ensures not_bad { (line : ℕ) → script bytes.now ≡ Err line → (result.status ≡ 2) ⊎ (result.status ≡ 4) }
+    ensures known { IsRun result.status ⊎ ((result.status ≡ 2) ⊎ IsStopped result.status) }
     ensures untouched { result.status ≡ 2 → (result.home ≡ home) × (result.away ≡ away) }
-    ensures history { IsRun result.status → IsRunOf D.seen home away result.history bytes.now }
-    ensures first { (result.status ≡ 4) ⊎ (result.status ≡ 5)
-        → AnswersFront D.seen home away result.history bytes.now }
-    ensures few { IsReadWhole result.status → length bytes.now ≤ 67108864 }
+    ensures bytes { AnswersBytes O.taken O.faults out.old out.new D.seen home away result bytes.items }
     ensures run { AnswersRun O.taken O.faults D.seen D.is_image D.calls D.faults
         out.old out.new home away result }
     ensures clock { result.clock ≡ clock }
 {
-    match read(alloc, bytes) {
+    match read_script(alloc, bytes) {
         Ok(scripts) => run_serial(alloc, scripts, out, home, away, clock),
         Err(ScriptFault::Memory) => unbegun(alloc, 4, home, away, clock),
         Err(ScriptFault::Bad { line }) => match tell_bad(alloc, out, line) {
@@ -141,8 +143,8 @@ pub fn run_input<I: Source, O: Sink, D: Disk, C: Clock>(
     away: D,
     clock: C,
 ) -> Outcome<D, C>
-    ensures known { IsRun result.status ⊎ ((result.status ≡ 2) ⊎ ((result.status ≡ 3)
-        ⊎ ((result.status ≡ 4) ⊎ ((result.status ≡ 5) ⊎ (result.status ≡ 6))))) }
+    ensures known { IsRun result.status
+        ⊎ ((result.status ≡ 2) ⊎ ((result.status ≡ 3) ⊎ IsStopped result.status)) }
     ensures read_fault { result.status ≡ 3
         → Rose (I.faults input.old) (I.faults input.new) × (O.taken out.new ≡ O.taken out.old) }
     ensures bad { result.status ≡ 2
@@ -158,14 +160,14 @@ pub fn run_input<I: Source, O: Sink, D: Disk, C: Clock>(
         → (result.home ≡ home) × (result.away ≡ away) }
     ensures history { IsRun result.status
         → IfSome (I.left input.old) (IsRunOf D.seen home away result.history) }
-    ensures first { (result.status ≡ 4) ⊎ (result.status ≡ 5)
+    ensures front { (result.status ≡ 4) ⊎ (result.status ≡ 5)
         → IfSome (I.left input.old) (AnswersFront D.seen home away result.history) }
     ensures run { AnswersRun O.taken O.faults D.seen D.is_image D.calls D.faults
         out.old out.new home away result }
     ensures clock { result.clock ≡ clock }
 {
     match read_input(alloc, input) {
-        Ok(bytes) => run_bytes(alloc, &bytes, out, home, away, clock),
+        Ok(bytes) => run_bytes(alloc, bytes, out, home, away, clock),
         Err(ReadFault::Failed) => unbegun(alloc, 3, home, away, clock),
         Err(ReadFault::Memory) => unbegun(alloc, 4, home, away, clock),
     }

@@ -27,7 +27,8 @@ use std::alloc::Global;
 
 const USAGE: &str = "usage: aqd run | run --serial | dump | compact | gen N S K | audit\n";
 
-/// All that the program does: the words of its command line, what it reads, what it writes, the disks of its two databases, and the clock.
+/// All that the program does: the words of its command line, what it reads, what it writes, the disks of its
+/// two databases, and the clock.
 pub fn serve<I: Source, O: Sink, D: Disk, C: Clock>(
     alloc: Global,
     words: &Words,

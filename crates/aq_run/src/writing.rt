@@ -1,9 +1,7 @@
 // What is written: histories, tables, and what is told of a call that reached no run.
 ghost use Rattle.std.specs.Prelude.{◌≡◌, ◌⊎◌, IfOk, OnOk, OnErr};
-ghost use Rattle.std.specs.Io.KnownBytes.{Appends};
-ghost use Rattle.aq_base.specs.Causes.{Rose};
 ghost use Rattle.transcript.specs.Print.{print};
-ghost use Rattle.aq_run.specs.Serve.{bad_line_text, damaged_text, db_name, dump_text, IsRun, Tells, WritesFront};
+ghost use Rattle.aq_run.specs.Serve.{bad_line_text, damaged_text, db_name, dump_text, IsRun, Tells, Writes};
 
 use aq_base::{DbId, Sink, write_all};
 use queue_rows::{History, Tables};
@@ -55,10 +53,7 @@ pub fn tell_damaged<O: Sink>(
 /// Writes a text as far as the sink takes it. The answer is the status of a call that has nothing else to do.
 fn write<O: Sink>(out: &mut O, text: &[u8]) -> u8
     ensures known { IsRun result }
-    ensures whole { result ≡ 0 → Appends (O.taken out.old) (O.taken out.new) text.now }
-    ensures front { WritesFront O.taken out.old out.new text.now }
-    ensures fault { result ≡ 7 → Rose (O.faults out.old) (O.faults out.new) }
-    ensures told { Tells O.taken O.faults out.old out.new text.now }
+    ensures writes { Writes O.taken O.faults out.old out.new text.now result }
 {
     match write_all(out, text) {
         Ok(()) => 0,
@@ -69,10 +64,7 @@ fn write<O: Sink>(out: &mut O, text: &[u8]) -> u8
 /// Prints a history as far as the sink takes it. The answer is the status of a run that came to its end.
 pub fn show<O: Sink>(alloc: Global, out: &mut O, history: &History) -> u8
     ensures known { IsRun result ⊎ (result ≡ 4) }
-    ensures whole { result ≡ 0 → Appends (O.taken out.old) (O.taken out.new) (print history.now) }
-    ensures front { WritesFront O.taken out.old out.new (print history.now) }
-    ensures fault { result ≡ 7 → Rose (O.faults out.old) (O.faults out.new) }
-    ensures told { (result ≡ 4) ⊎ Tells O.taken O.faults out.old out.new (print history.now) }
+    ensures writes { Writes O.taken O.faults out.old out.new (print history.now) result }
 {
     match print(alloc, history) {
         Ok(text) => write(out, &text),
@@ -89,14 +81,10 @@ fn dump_text(alloc: Global, home: &Tables, away: &Tables) -> Result<Vec<u8>, All
     Ok(text)
 }
 
-/// Prints the tables of both databases, as far as the sink takes them. Where there is no memory nothing is written.
+/// Prints the tables of both databases, as far as the sink takes them.
 pub fn show_tables<O: Sink>(alloc: Global, out: &mut O, home: &Tables, away: &Tables) -> u8
     ensures known { IsRun result ⊎ (result ≡ 4) }
-    ensures whole { result ≡ 0
-        → Appends (O.taken out.old) (O.taken out.new) (dump_text home.now away.now) }
-    ensures front { result ≡ 7 → WritesFront O.taken out.old out.new (dump_text home.now away.now) }
-    ensures fault { result ≡ 7 → Rose (O.faults out.old) (O.faults out.new) }
-    ensures nothing { result ≡ 4 → O.taken out.new ≡ O.taken out.old }
+    ensures writes { Writes O.taken O.faults out.old out.new (dump_text home.now away.now) result }
 {
     match dump_text(alloc, home, away) {
         Ok(text) => write(out, &text),

@@ -17,14 +17,14 @@ pub returns-in-Some-RunSerial-clause-complete : goal.returns-in-Some-RunSerial-c
 returns-in-Some-RunSerial-clause-complete g c = λ can.
     let e = c.run_input.ensures in
     let k = run_known c.run_input.result.status e.known in
-    complete_so can g.O.Sink.taken c.run_input.result.status k.0 k.1 (λ is. (search rules, e.bad is)) (λ is. (e.read_fault is).0) e.run.disks.failed e.run.damaged e.run.write_fault
+    complete_so can g.O.Sink.taken c.run_input.result.status k.0 k.1 (λ is. (search rules, e.bad is)) (λ is. (e.read_fault is).0) e.run.call.disks.failed e.run.call.damaged e.run.call.write_fault
 
 pub returns-in-Some-Dump-clause-complete : goal.returns-in-Some-Dump-clause-complete
 returns-in-Some-Dump-clause-complete g c = λ can.
     let e = c.dump.ensures in
     let s = c.dump.result.status in
-    complete_so can g.O.Sink.taken s (dump_known s e.known).0 (λ is. dump_none s 1 e.known (omega arith) (omega arith) is) (λ is. dump_none s 2 e.known (omega arith) (omega arith) is) (λ is. dump_none s 3 e.known (omega arith) (omega arith) is)
-    e.disks.failed e.damaged e.write_fault
+    complete_so can g.O.Sink.taken s (dump_known s e.known) (λ is. dump_none s 1 e.known (omega arith) (omega arith) is) (λ is. dump_none s 2 e.known (omega arith) (omega arith) is) (λ is. dump_none s 3 e.known (omega arith) (omega arith) is)
+    e.call.disks.failed e.call.damaged e.call.write_fault
 
 pub returns-in-None-clause-complete : goal.returns-in-None-clause-complete
 returns-in-None-clause-complete g c = λ can.

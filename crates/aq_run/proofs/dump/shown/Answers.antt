@@ -1,0 +1,6 @@
+use Rattle.std.proofs.Common.{◌≡◌, ◌⊎◌, ℕ, sym, subst}
+use Rattle.aq_run.specs.Serve.{IsRun}
+use Rattle.aq_run.proofs.dump.shown.Goals as goal
+
+pub returns-clause-known : goal.returns-clause-known
+returns-clause-known g c = subst (λ (status : ℕ). IsRun status ⊎ (status ≡ 4)) (sym c.without_run.ensures.status) c.show_tables-status.ensures.known
