@@ -68,7 +68,8 @@ pub fn can_choose(messages: &Tree<MsgRow>, locks: &RowLocks, actor: u32, pick: &
     have_few_slots(messages) && (!pick.table.grouped || has_no_mark(locks, actor))
 }
 
-fn are_same(left: Choice<'_>, right: Choice<'_>) -> bool {
+/// Whether both are the same message and slot, or the same lack of one.
+pub fn are_same(left: Choice<'_>, right: Choice<'_>) -> bool {
     match (left, right) {
         (
             Choice::Found { message, slot },

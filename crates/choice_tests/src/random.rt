@@ -102,7 +102,7 @@ fn run_alike<L: Ledger>(
     requires some { 0 < blank.parts }
 {
     let mut steps = Steps::<L>::new(blank);
-    let queue = queue(alloc, kind)?;
+    let queue = queue(alloc, "q", kind)?;
     let table = table(alloc, grouped)?;
     let place = Place {
         queue: &queue,

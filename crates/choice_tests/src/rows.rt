@@ -11,6 +11,9 @@ use slot_marks::{Group, Mark};
 use std::alloc::{AllocError, Global};
 use std::test::Fail;
 
+/// How many sessions have marks.
+pub const SESSIONS: u32 = 2;
+
 /// The next number that is less than a limit.
 pub fn below(seed: &mut u32, limit: u32) -> u32
     requires { 0 < limit }
@@ -86,12 +89,14 @@ fn any_facts(seed: &mut u32, alloc: Global) -> Result<Facts, AllocError> {
     })
 }
 
-fn any_queue(seed: &mut u32, alloc: Global) -> Result<Name, Fail> {
+/// One of the two queues, mostly `q`.
+pub fn any_queue(seed: &mut u32, alloc: Global) -> Result<Name, Fail> {
     let text = if below(seed, 5) == 0 { "r" } else { "q" };
     Ok(Name::read(alloc, text)?)
 }
 
-fn any_message(seed: &mut u32, alloc: Global, id: u32) -> Result<MsgRow, Fail> {
+/// A message of that number in one of the two queues.
+pub fn any_message(seed: &mut u32, alloc: Global, id: u32) -> Result<MsgRow, Fail> {
     let lane = below(seed, 4);
     let queue = any_queue(seed, alloc)?;
     let column = i64::from(below(seed, 3));
@@ -152,7 +157,7 @@ pub fn mark(
     grouped: bool,
 ) -> Result<(), Fail> {
     for _ in 0..below(seed, 5) {
-        let session = if grouped { 0 } else { below(seed, 2) };
+        let session = if grouped { 0 } else { below(seed, SESSIONS) };
         locks.reserve(session)?;
         let _held = locks.take(session, any_mark(seed, alloc, grouped)?);
     }
@@ -184,9 +189,9 @@ pub fn table(alloc: Global, grouped: bool) -> Result<TableRow, Fail> {
     })
 }
 
-/// The queue `q` of the table `t`.
-pub fn queue(alloc: Global, kind: QueueKind) -> Result<QueueRow, Fail> {
-    let name = Name::read(alloc, "q")?;
+/// A queue of the table `t`.
+pub fn queue(alloc: Global, name: &str, kind: QueueKind) -> Result<QueueRow, Fail> {
+    let name = Name::read(alloc, name)?;
     let table = Name::read(alloc, "t")?;
     Ok(QueueRow {
         name,
