@@ -2,8 +2,12 @@
 #![tactic(auto)]
 
 #[cfg(test)]
+mod crashes;
+#[cfg(test)]
 mod disks;
 #[cfg(test)]
 mod fixtures;
+#[cfg(test)]
+mod runs;
 #[cfg(test)]
 mod serving;
