@@ -1,4 +1,6 @@
+pub mod Brief
 pub mod Counts
+pub mod Growing
 pub mod Lists
 pub mod Logging
 pub mod Mounting

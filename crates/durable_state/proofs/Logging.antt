@@ -121,6 +121,14 @@ pub faults_queued : {D : Type 0} (faults : D → ℕ) (disk : D) (moment : ℕ) 
 faults_queued faults disk moment cs old new is f =
     subst (AreFaults faults disk) (sym is) (faults_if faults disk (length cs == 0) (old.queued ++ encode (commit_of moment cs) ∷ []) old f)
 
+disk_if : {D : Type 0} (b : Bool) (q : List (List ℕ)) (j : Journaled D) → (if b then j else record j { queued = q }).disk ≡ j.disk
+disk_if true q j = refl
+disk_if false q j = refl
+
+pub disk_queued : {D : Type 0} (moment : ℕ) (cs : List Change) (old new : Journaled D) → new ≡ queueing moment cs old → new.disk ≡ old.disk
+disk_queued moment cs old new is =
+    ap (λ (j : Journaled _). j.disk) is ∙ disk_if (length cs == 0) (old.queued ++ encode (commit_of moment cs) ∷ []) old
+
 failed_if : {D : Type 0} (b : Bool) (q : List (List ℕ)) (j : Journaled D) → (if b then j else record j { queued = q }).failed_at ≡ j.failed_at
 failed_if true q j = refl
 failed_if false q j = refl

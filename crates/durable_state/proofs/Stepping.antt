@@ -1,5 +1,5 @@
 -- A run over its disks goes on with a step.
-use Rattle.std.proofs.Common.{◌≡◌, inl, inr, ◌≤◌, ◌-◌, ◌+◌, ◌++◌, ℕ, true, false, not, List, [], ◌∷◌, length, take, Option, IsSome, Result, refl, sym, ap, ◌∙◌, subst, arith}
+use Rattle.std.proofs.Common.{◌≡◌, ◌⊎◌, inl, inr, ◌≤◌, ◌-◌, ◌+◌, ◌++◌, ℕ, true, false, not, List, [], ◌∷◌, length, take, Option, None, IsSome, Result, refl, sym, ap, ◌∙◌, subst, arith}
 use Rattle.std.specs.Prelude.{◌==◌, Ok, Err, OnOk, OnErr}
 use Rattle.std.proofs.lemmas.List.{length_push}
 use Rattle.aq_base.specs.declared.DbId.{DbId}
@@ -13,8 +13,9 @@ use Rattle.queue_rows.specs.World.{World}
 use Rattle.run_state.specs.Promises.{promised}
 use Rattle.run_state.specs.Reserved.{Reserved, HasPlaces}
 use Rattle.run_state.proofs.Promises.{promised_few}
+use Rattle.durable_state.specs.Brief.{AreBrief, EndsAt, IsBrief}
 use Rattle.durable_state.specs.Counted.{with_calls, counted}
-use Rattle.durable_state.specs.Going.{Goes}
+use Rattle.durable_state.specs.Going.{AddsEntries, Goes}
 use Rattle.durable_state.specs.Held.{Held, HasFailed}
 use Rattle.durable_state.specs.Queueing.{Enters, numbers, queued_of, taken_back, unqueueing}
 use Rattle.durable_state.specs.Survival.{Begun, Survives, SurvivesAt, run_at}
@@ -22,10 +23,13 @@ use Rattle.durable_state.specs.Writing.{Flushes, Writes}
 use Rattle.durable_state.specs.declared.disk_calls.DiskCalls.{DiskCalls}
 use Rattle.durable_state.specs.declared.run_logs.Queued.{Queued}
 use Rattle.durable_state.specs.declared.run_logs.RunLogs.{RunLogs}
+use Rattle.durable_state.proofs.Brief.{ends_push, flush_push, quiet_push}
 use Rattle.durable_state.proofs.Counts.{counted_push}
+use Rattle.durable_state.proofs.Growing.{adds_one, adds_same}
 use Rattle.durable_state.proofs.Lists.{take_pushed}
-use Rattle.durable_state.proofs.Logging.{faults_queued, failed_queued, unqueued, has_queued}
+use Rattle.durable_state.proofs.Logging.{disk_queued, faults_queued, failed_queued, unqueued, has_queued}
 use Rattle.durable_state.proofs.Worlds.{Adds}
+use Rattle.durable_state.proofs.Writing.{not_failed}
 
 -- what contracts see of a state with this world and these logs
 abbrev pub held_of : {D : Type 0} → World → RunLogs D → Held D
@@ -66,7 +70,7 @@ still_counted w v calls more e c few one two =
 module _ {D : Type 0} (seen : D → Option (List ℕ)) (images : D → ℕ → List ℕ → Type 0) (calls faults : D → ℕ) where
   -- ---- the logs have an entry more
 
-  module _ (moment : ℕ) (home away : List Change) (w v : World) (l m : RunLogs D) (few : length l.calls.items ≡ length w.entries) (now : moment ≡ w.moment) (a : Adds false home away w v) (x : Enters seen images calls moment home away l m) where
+  module _ (actor moment : ℕ) (home away : List Change) (w v : World) (l m : RunLogs D) (few : length l.calls.items ≡ length w.entries) (now : moment ≡ w.moment) (a : Adds actor false home away w v) (x : Enters seen images calls moment home away l m) where
     abbrev e : Entry
     e = with_calls (numbers calls l) a.entry
 
@@ -83,6 +87,16 @@ module _ {D : Type 0} (seen : D → Option (List ℕ)) (images : D → ℕ → L
         home_faults = faults_queued faults b.home moment home l.home m.home x.home_log.is s.home_faults;
         away_faults = faults_queued faults b.away moment away l.away m.away x.away_log.is s.away_faults;
       };
+    }
+
+    pub entry_adds : AddsEntries actor (held_of w l) (held_of v m)
+    entry_adds = adds_one (held_of w l) (held_of v m) e a.by entries
+
+    pub entry_brief : IsBrief calls (held_of w l) → IsBrief calls (held_of v m)
+    entry_brief b = record {
+      flushes = subst AreBrief (sym entries) (quiet_push (counted w.entries l.calls.items) e a.is b.flushes);
+      present = inr (subst (EndsAt (calls m.home.disk) (calls m.away.disk)) (sym entries) (ends_push (calls m.home.disk) (calls m.away.disk) e
+          (sym (ap calls (disk_queued moment home l.home m.home x.home_log.is))) (sym (ap calls (disk_queued moment away l.away m.away x.away_log.is))) (counted w.entries l.calls.items)));
     }
 
     pub failed_on : HasFailed (held_of v m) → HasFailed (held_of w l)
@@ -122,20 +136,24 @@ module _ {D : Type 0} (seen : D → Option (List ℕ)) (images : D → ℕ → L
   -- ---- a step that was made, or not
 
   -- the state behind it goes on from that before it
-  pub record Follows (w v : World) (l n : RunLogs D) : Type 0 where
+  pub record Follows (actor : ℕ) (w v : World) (l n : RunLogs D) : Type 0 where
     pub few : length n.calls.items ≡ length v.entries
     pub room : HasPlaces (promised v) n.calls
     pub goes : Goes seen images calls faults (held_of w l) (held_of v n)
+    pub adds : AddsEntries actor (held_of w l) (held_of v n)
+    pub brief : IsBrief calls (held_of v n)
     pub fine : HasFailed (held_of v n) → HasFailed (held_of w l)
 
-  follows_back : (w : World) (l n : RunLogs D) → length l.calls.items ≡ length w.entries → HasPlaces (promised w) n.calls
-      → n.home ≡ l.home → n.away ≡ l.away → n.calls.items ≡ l.calls.items → Follows w w l n
-  follows_back w l n few room home away items =
+  follows_back : (actor : ℕ) (w : World) (l n : RunLogs D) → length l.calls.items ≡ length w.entries → IsBrief calls (held_of w l) → HasPlaces (promised w) n.calls
+      → n.home ≡ l.home → n.away ≡ l.away → n.calls.items ≡ l.calls.items → Follows actor w w l n
+  follows_back actor w l n few brief room home away items =
       let same = same_parts w l n home away items in
       record {
         few = ap length items ∙ few;
         room = room;
         goes = record { on = λ b s. subst (Survives seen images calls faults b) (sym same) s };
+        adds = adds_same (held_of w l) (held_of w n) same;
+        brief = subst (IsBrief calls) (sym same) brief;
         fine = λ h. subst (λ (o : Held D). HasFailed o) same h;
       }
 
@@ -143,33 +161,37 @@ module _ {D : Type 0} (seen : D → Option (List ℕ)) (images : D → ℕ → L
   room_for : (v : World) (n : ℕ) (l : Reserved DiskCalls) → length v.sessions ≡ n → HasPlaces (n + 1) l → HasPlaces (promised v) l
   room_for v n l many room = let few = promised_few v.home v.away v.sessions in omega (arith, few, many, room)
 
-  pub follows : {T E : Type 0} (made : Result T E) (moment : ℕ) (home away : List Change) (queued : Queued) (w v : World) (l m n : RunLogs D) → length l.calls.items ≡ length w.entries → moment ≡ w.moment
+  pub follows : {T E : Type 0} (made : Result T E) (actor moment : ℕ) (home away : List Change) (queued : Queued) (w v : World) (l m n : RunLogs D) → length l.calls.items ≡ length w.entries → IsBrief calls (held_of w l) → moment ≡ w.moment
       → queued ≡ queued_of home away → Enters seen images calls moment home away l m → HasPlaces (length w.sessions + 1) m.calls → OnOk made (n ≡ m) → OnErr made (n ≡ taken_back queued m)
-      → OnOk made (Adds false home away w v) → OnErr made (v ≡ w) → Follows w v l n
-  follows (Ok y) moment home away queued w v l m n few now are x room ok err added same =
-      subst (λ (o : RunLogs D). Follows w v l o) (sym ok) (record {
+      → OnOk made (Adds actor false home away w v) → OnErr made (v ≡ w) → Follows actor w v l n
+  follows (Ok y) actor moment home away queued w v l m n few brief now are x room ok err added same =
+      subst (λ (o : RunLogs D). Follows actor w v l o) (sym ok) (record {
         few = still_counted w v l.calls.items m.calls.items added.entry (numbers calls l) few added.entries x.calls_are;
         room = room_for v (length w.sessions) m.calls added.count room;
-        goes = entry_goes moment home away w v l m few now added x;
-        fine = failed_on moment home away w v l m few now added x;
+        goes = entry_goes actor moment home away w v l m few now added x;
+        adds = entry_adds actor moment home away w v l m few now added x;
+        brief = entry_brief actor moment home away w v l m few now added x brief;
+        fine = failed_on actor moment home away w v l m few now added x;
       })
-  follows (Err y) moment home away queued w v l m n few now are x room ok err added same =
+  follows (Err y) actor moment home away queued w v l m n few brief now are x room ok err added same =
       let back : n ≡ taken_back (queued_of home away) m = err ∙ ap (λ (q : Queued). taken_back q m) are in
-      subst (λ (u : World). Follows w u l n) (sym same) (subst (λ (o : RunLogs D). Follows w w l o) (sym back)
-      (follows_back w l (taken_back (queued_of home away) m) few
+      subst (λ (u : World). Follows actor w u l n) (sym same) (subst (λ (o : RunLogs D). Follows actor w w l o) (sym back)
+      (follows_back actor w l (taken_back (queued_of home away) m) few brief
       (room_for w (length w.sessions) (taken_back (queued_of home away) m).calls refl (room_back moment home away l m x (length w.sessions + 1) room))
       (home_back moment home away l m x) (away_back moment home away l m x) (calls_back moment home away l m x)))
 
   -- an entry that commits nothing took a place that was promised
-  pub follows_passed : (w v : World) (l n : RunLogs D) → length l.calls.items ≡ length w.entries → HasPlaces (promised w) l.calls → promised v + 1 ≤ promised w → l.calls.capacity ≤ n.calls.capacity
-      → Enters seen images calls w.moment [] [] l n → Adds false [] [] w v → Follows w v l n
-  follows_passed w v l n few room less most x added =
+  pub follows_passed : (actor : ℕ) (w v : World) (l n : RunLogs D) → length l.calls.items ≡ length w.entries → IsBrief calls (held_of w l) → HasPlaces (promised w) l.calls → promised v + 1 ≤ promised w → l.calls.capacity ≤ n.calls.capacity
+      → Enters seen images calls w.moment [] [] l n → Adds actor false [] [] w v → Follows actor w v l n
+  follows_passed actor w v l n few brief room less most x added =
       let more = ap length x.calls_are ∙ length_push l.calls.items (numbers calls l) in
       record {
         few = still_counted w v l.calls.items n.calls.items added.entry (numbers calls l) few added.entries x.calls_are;
         room = omega (arith, room, less, most, more);
-        goes = entry_goes w.moment [] [] w v l n few refl added x;
-        fine = failed_on w.moment [] [] w v l n few refl added x;
+        goes = entry_goes actor w.moment [] [] w v l n few refl added x;
+        adds = entry_adds actor w.moment [] [] w v l n few refl added x;
+        brief = entry_brief actor w.moment [] [] w v l n few refl added x brief;
+        fine = failed_on actor w.moment [] [] w v l n few refl added x;
       }
 
   -- a step without an entry
@@ -187,6 +209,17 @@ module _ {D : Type 0} (seen : D → Option (List ℕ)) (images : D → ℕ → L
 
   -- ---- flushes
 
+  -- no call failed
+  present_now : (l : RunLogs D) (es : List Entry) → l.home.failed_at ≡ None → l.away.failed_at ≡ None → (IsSome l.home.failed_at ⊎ IsSome l.away.failed_at) ⊎ EndsAt (calls l.home.disk) (calls l.away.disk) es
+      → EndsAt (calls l.home.disk) (calls l.away.disk) es
+  present_now l es home away (inl (inl h)) = not_failed l.home.failed_at home h
+  present_now l es home away (inl (inr h)) = not_failed l.away.failed_at away h
+  present_now l es home away (inr ends) = ends
+
+  -- a call failed
+  pub failed_brief : (w : World) (l m : RunLogs D) → m.calls.items ≡ l.calls.items → HasFailed (held_of w m) → IsBrief calls (held_of w l) → IsBrief calls (held_of w m)
+  failed_brief w l m same failed b = record { flushes = subst (λ (cs : List DiskCalls). AreBrief (counted w.entries cs)) (sym same) b.flushes; present = inl failed }
+
   -- the calls of the disks
   pub calls_go : (w : World) (l m : RunLogs D) → m.calls.items ≡ l.calls.items → Writes seen images calls faults l.home m.home → Writes seen images calls faults l.away m.away
       → Goes seen images calls faults (held_of w l) (held_of w m)
@@ -202,8 +235,8 @@ module _ {D : Type 0} (seen : D → Option (List ℕ)) (images : D → ℕ → L
   }
 
   -- all is written, and the flush has its entry
-  module _ (w v : World) (l m n : RunLogs D) (few : length l.calls.items ≡ length w.entries) (same : m.calls.items ≡ l.calls.items)
-      (home_same : n.home ≡ m.home) (away_same : n.away ≡ m.away) (counts : n.calls.items ≡ m.calls.items ++ numbers calls m ∷ []) (a : Adds true [] [] w v)
+  module _ (actor : ℕ) (w v : World) (l m n : RunLogs D) (few : length l.calls.items ≡ length w.entries) (same : m.calls.items ≡ l.calls.items)
+      (home_same : n.home ≡ m.home) (away_same : n.away ≡ m.away) (counts : n.calls.items ≡ m.calls.items ++ numbers calls m ∷ []) (a : Adds actor true [] [] w v)
       (home : Writes seen images calls faults l.home m.home) (away : Writes seen images calls faults l.away m.away)
       (home_flush : Flushes seen images calls l.home m.home) (away_flush : Flushes seen images calls l.away m.away) where
     abbrev f : Entry
@@ -233,6 +266,18 @@ module _ {D : Type 0} (seen : D → Option (List ℕ)) (images : D → ℕ → L
 
     pub flush_goes : Goes seen images calls faults (held_of w l) (held_of v n)
     flush_goes = record { on = λ b s. subst (Survives seen images calls faults b) (sym flush_held) (flush_on b s) }
+
+    -- no call was made behind the last entry, and the flush made few
+    pub flush_brief : IsBrief calls (held_of w l) → l.home.failed_at ≡ None → l.away.failed_at ≡ None → calls m.home.disk ≤ calls l.home.disk + 4 → calls m.away.disk ≤ calls l.away.disk + 4
+        → IsBrief calls (held_of v n)
+    flush_brief b fine_home fine_away few_home few_away = record {
+      flushes = subst AreBrief (sym flush_entries) (flush_push (calls l.home.disk) (calls l.away.disk) f few_home few_away (counted w.entries l.calls.items) b.flushes (present_now l (counted w.entries l.calls.items) fine_home fine_away b.present));
+      present = inr (subst (EndsAt (calls n.home.disk) (calls n.away.disk)) (sym flush_entries) (ends_push (calls n.home.disk) (calls n.away.disk) f
+          (ap (λ (j : Journaled D). calls j.disk) (sym home_same)) (ap (λ (j : Journaled D). calls j.disk) (sym away_same)) (counted w.entries l.calls.items)));
+    }
+
+    pub flush_adds : AddsEntries actor (held_of w l) (held_of v n)
+    flush_adds = adds_one (held_of w l) (held_of v n) f a.by flush_entries
 
     -- the places that are promised are still there, but for that of the flush
     pub flush_room : (old new : ℕ) → new + 1 ≤ old → HasPlaces old l.calls → l.calls.capacity ≤ n.calls.capacity → HasPlaces new n.calls

@@ -27,10 +27,11 @@ use Rattle.sessions.specs.declared.state.SessionState.{SessionState}
 use Rattle.run_state.specs.declared.call_effect.CallEffect.{CallEffect}
 use Rattle.durable_state.proofs.Lists.{if_true, if_false}
 
--- the world has one entry more, which commits these changes, and is a flush or not
-pub record Adds (flush : Bool) (home away : List Change) (w v : World) : Type 0 where
+-- the world has one entry more of that actor, which commits these changes, and is a flush or not
+pub record Adds (actor : ℕ) (flush : Bool) (home away : List Change) (w v : World) : Type 0 where
   pub entry : Entry
   pub entries : v.entries ≡ w.entries ++ entry ∷ []
+  pub by : entry.actor ≡ actor
   pub is : is_flush entry.step ≡ flush
   pub home_is : entry.home ≡ home
   pub away_is : entry.away ≡ away
@@ -39,11 +40,12 @@ pub record Adds (flush : Bool) (home away : List Change) (w v : World) : Type 0 
   pub away_opening : v.away.opening ≡ w.away.opening
   pub count : length v.sessions ≡ length w.sessions
 
-pub adds_stepped : (flush : Bool) (actor : ℕ) (w : World) (home away : List Change) (step : Step) → is_flush step ≡ flush → Adds flush home away w (stepped actor w home away step)
+pub adds_stepped : (flush : Bool) (actor : ℕ) (w : World) (home away : List Change) (step : Step) → is_flush step ≡ flush → Adds actor flush home away w (stepped actor w home away step)
 unfolding stepped
 adds_stepped flush actor w home away step is = record {
   entry = entry_of actor w home away step;
   entries = refl;
+  by = refl;
   is = is;
   home_is = refl;
   away_is = refl;
@@ -55,10 +57,11 @@ adds_stepped flush actor w home away step is = record {
 
 -- ---- what changes nothing of it
 
-adds_sessions : (flush : Bool) (home away : List Change) (w u : World) (ss : List Session) → length ss ≡ length u.sessions → Adds flush home away w u → Adds flush home away w (record u { sessions = ss })
-adds_sessions flush home away w u ss many a = record {
+adds_sessions : (actor : ℕ) (flush : Bool) (home away : List Change) (w u : World) (ss : List Session) → length ss ≡ length u.sessions → Adds actor flush home away w u → Adds actor flush home away w (record u { sessions = ss })
+adds_sessions actor flush home away w u ss many a = record {
   entry = a.entry;
   entries = a.entries;
+  by = a.by;
   is = a.is;
   home_is = a.home_is;
   away_is = a.away_is;
@@ -68,10 +71,11 @@ adds_sessions flush home away w u ss many a = record {
   count = many ∙ a.count;
 }
 
-adds_transit : (flush : Bool) (home away : List Change) (w u : World) (t : Option Transit) → Adds flush home away w u → Adds flush home away w (record u { transit = t })
-adds_transit flush home away w u t a = record {
+adds_transit : (actor : ℕ) (flush : Bool) (home away : List Change) (w u : World) (t : Option Transit) → Adds actor flush home away w u → Adds actor flush home away w (record u { transit = t })
+adds_transit actor flush home away w u t a = record {
   entry = a.entry;
   entries = a.entries;
+  by = a.by;
   is = a.is;
   home_is = a.home_is;
   away_is = a.away_is;
@@ -81,10 +85,11 @@ adds_transit flush home away w u t a = record {
   count = a.count;
 }
 
-adds_ids : (flush : Bool) (home away : List Change) (w u : World) (db : DbId) (n : ℕ) → Adds flush home away w u → Adds flush home away w (taking_ids db n u)
-adds_ids flush home away w u Home n a = record {
+adds_ids : (actor : ℕ) (flush : Bool) (home away : List Change) (w u : World) (db : DbId) (n : ℕ) → Adds actor flush home away w u → Adds actor flush home away w (taking_ids db n u)
+adds_ids actor flush home away w u Home n a = record {
   entry = a.entry;
   entries = a.entries;
+  by = a.by;
   is = a.is;
   home_is = a.home_is;
   away_is = a.away_is;
@@ -93,9 +98,10 @@ adds_ids flush home away w u Home n a = record {
   away_opening = a.away_opening;
   count = a.count;
 }
-adds_ids flush home away w u Away n a = record {
+adds_ids actor flush home away w u Away n a = record {
   entry = a.entry;
   entries = a.entries;
+  by = a.by;
   is = a.is;
   home_is = a.home_is;
   away_is = a.away_is;
@@ -105,10 +111,11 @@ adds_ids flush home away w u Away n a = record {
   count = a.count;
 }
 
-adds_durable : (flush : Bool) (home away : List Change) (w u : World) → Adds flush home away w u → Adds flush home away w (all_durable u)
-adds_durable flush home away w u a = record {
+adds_durable : (actor : ℕ) (flush : Bool) (home away : List Change) (w u : World) → Adds actor flush home away w u → Adds actor flush home away w (all_durable u)
+adds_durable actor flush home away w u a = record {
   entry = a.entry;
   entries = a.entries;
+  by = a.by;
   is = a.is;
   home_is = a.home_is;
   away_is = a.away_is;
@@ -123,22 +130,22 @@ adds_durable flush home away w u a = record {
 standing_many : (db : DbId) (cs : List Change) (ss : List Session) → length (standing_after db cs ss) ≡ length ss
 standing_many db cs ss = ap length (standing_is db cs ss) ∙ length-left db (gone_in cs) ss
 
-pub adds_called : (i : ℕ) (w : World) (s : Session) (call : CallEffect) → Adds false (at_home s.at call.commit) (at_away s.at call.commit) w (called_with i call w s)
+pub adds_called : (i : ℕ) (w : World) (s : Session) (call : CallEffect) → Adds i false (at_home s.at call.commit) (at_away s.at call.commit) w (called_with i call w s)
 adds_called i w s call =
     let home = at_home s.at call.commit in
     let away = at_away s.at call.commit in
     let step = Call (s.next + 1) call.reply in
     let u = taking_ids s.at (ids_taken call.reply) (stepped i w home away step) in
-    adds_sessions false home away w u _ (standing_many s.at call.commit _ ∙ length-set u.sessions i _) (adds_ids false home away w (stepped i w home away step) s.at (ids_taken call.reply) (adds_stepped false i w home away step refl))
+    adds_sessions i false home away w u _ (standing_many s.at call.commit _ ∙ length-set u.sessions i _) (adds_ids i false home away w (stepped i w home away step) s.at (ids_taken call.reply) (adds_stepped false i w home away step refl))
 
-pub adds_ended : (i : ℕ) (w : World) (s : Session) → Adds false [] [] w (ended i s w)
-adds_ended i w s = adds_sessions false [] [] w (stepped i w [] [] End) _ (length-set (stepped i w [] [] End).sessions i _) (adds_stepped false i w [] [] End refl)
+pub adds_ended : (i : ℕ) (w : World) (s : Session) → Adds i false [] [] w (ended i s w)
+adds_ended i w s = adds_sessions i false [] [] w (stepped i w [] [] End) _ (length-set (stepped i w [] [] End).sessions i _) (adds_stepped false i w [] [] End refl)
 
-pub adds_parked : (i since : ℕ) (w : World) (s : Session) → is_some s.parked ≡ false → Adds false [] [] w (parked i s since w)
+pub adds_parked : (i since : ℕ) (w : World) (s : Session) → is_some s.parked ≡ false → Adds i false [] [] w (parked i s since w)
 adds_parked i since w s none =
     let v = with_session i (record s { parked = Some since }) (stepped i w [] [] (Park (s.next + 1))) in
-    subst (Adds false [] [] w) (sym (if_false (is_some s.parked) w v none))
-    (adds_sessions false [] [] w (stepped i w [] [] (Park (s.next + 1))) _ (length-set (stepped i w [] [] (Park (s.next + 1))).sessions i _) (adds_stepped false i w [] [] (Park (s.next + 1)) refl))
+    subst (Adds i false [] [] w) (sym (if_false (is_some s.parked) w v none))
+    (adds_sessions i false [] [] w (stepped i w [] [] (Park (s.next + 1))) _ (length-set (stepped i w [] [] (Park (s.next + 1))).sessions i _) (adds_stepped false i w [] [] (Park (s.next + 1)) refl))
 
 -- ---- readings
 
@@ -181,8 +188,8 @@ flushed_new i w h = if_false (is_durable w) w (all_durable (stepped i w [] [] Fl
 pub flushed_again : (i : ℕ) (w : World) → flushed i (flushed i w) ≡ flushed i w
 flushed_again i w = flushed_same i (flushed i w) (durable_flushed i w)
 
-pub adds_flush : (i : ℕ) (w : World) → is_durable w ≡ false → Adds true [] [] w (flushed i w)
-adds_flush i w h = subst (Adds true [] [] w) (sym (flushed_new i w h)) (adds_durable true [] [] w (stepped i w [] [] Flush) (adds_stepped true i w [] [] Flush refl))
+pub adds_flush : (i : ℕ) (w : World) → is_durable w ≡ false → Adds i true [] [] w (flushed i w)
+adds_flush i w h = subst (Adds i true [] [] w) (sym (flushed_new i w h)) (adds_durable i true [] [] w (stepped i w [] [] Flush) (adds_stepped true i w [] [] Flush refl))
 
 -- ---- telling
 
@@ -216,32 +223,32 @@ pub told_on : (i number : ℕ) (w u v : World) → u ≡ flushed i w → OfSessi
 told_on i number w u v is h = told_behind i number w v (subst (λ (x : World). OfSession i x (λ s. v ≡ told i s number x)) is h)
 
 -- of a world in which all is durable
-pub adds_told : (i number : ℕ) (w : World) (s : Session) → flushed i w ≡ w → Adds false [] [] w (told i s number w)
+pub adds_told : (i number : ℕ) (w : World) (s : Session) → flushed i w ≡ w → Adds i false [] [] w (told i s number w)
 adds_told i number w s same =
     let telling : World → World = λ u. with_session i (record s { untold = None }) (stepped i u [] [] (Told number)) in
-    subst (λ (u : World). Adds false [] [] w (telling u)) (sym same) (adds_sessions false [] [] w (stepped i w [] [] (Told number)) _ (length-set (stepped i w [] [] (Told number)).sessions i _) (adds_stepped false i w [] [] (Told number) refl))
+    subst (λ (u : World). Adds i false [] [] w (telling u)) (sym same) (adds_sessions i false [] [] w (stepped i w [] [] (Told number)) _ (length-set (stepped i w [] [] (Told number)).sessions i _) (adds_stepped false i w [] [] (Told number) refl))
 
 -- ---- propagation
 
-pub adds_offered : (actor : ℕ) (w : World) (at : SlotRef) (to : List ℕ) → Adds false [] [] w (sent actor (offers at to) w)
+pub adds_offered : (actor : ℕ) (w : World) (at : SlotRef) (to : List ℕ) → Adds actor false [] [] w (sent actor (offers at to) w)
 unfolding sent
-adds_offered actor w at to = adds_transit false [] [] w (stepped actor w [] [] (Offer at to)) _ (adds_stepped false actor w [] [] (Offer at to) refl)
+adds_offered actor w at to = adds_transit actor false [] [] w (stepped actor w [] [] (Offer at to)) _ (adds_stepped false actor w [] [] (Offer at to) refl)
 
-pub adds_arrived : (actor : ℕ) (w : World) (at : SlotRef) (a : Arriving) → Adds false (home_of at.db a.origin a.there) (away_of at.db a.origin a.there) w (sent actor (arrives at a) w)
+pub adds_arrived : (actor : ℕ) (w : World) (at : SlotRef) (a : Arriving) → Adds actor false (home_of at.db a.origin a.there) (away_of at.db a.origin a.there) w (sent actor (arrives at a) w)
 unfolding sent
 adds_arrived actor w at a =
     let home = home_of at.db a.origin a.there in
     let away = away_of at.db a.origin a.there in
     let v = stepped actor w home away (Arrive at a.outcome) in
-    adds_transit false home away w (taking_ids (other_db at.db) (ids_copied a.outcome) v) (transit_after v at a.outcome)
-    (adds_ids false home away w v (other_db at.db) (ids_copied a.outcome) (adds_stepped false actor w home away (Arrive at a.outcome) refl))
+    adds_transit actor false home away w (taking_ids (other_db at.db) (ids_copied a.outcome) v) (transit_after v at a.outcome)
+    (adds_ids actor false home away w v (other_db at.db) (ids_copied a.outcome) (adds_stepped false actor w home away (Arrive at a.outcome) refl))
 
-pub adds_confirmed : (actor : ℕ) (w : World) (at : SlotRef) (number : ℕ) (cs : List Change) → Adds false (at_home at.db cs) (at_away at.db cs) w (sent actor (confirms at number cs) w)
+pub adds_confirmed : (actor : ℕ) (w : World) (at : SlotRef) (number : ℕ) (cs : List Change) → Adds actor false (at_home at.db cs) (at_away at.db cs) w (sent actor (confirms at number cs) w)
 unfolding sent
 adds_confirmed actor w at number cs =
     let home = at_home at.db cs in
     let away = at_away at.db cs in
-    adds_transit false home away w (stepped actor w home away (Confirm at)) None (adds_stepped false actor w home away (Confirm at) refl)
+    adds_transit actor false home away w (stepped actor w home away (Confirm at)) None (adds_stepped false actor w home away (Confirm at) refl)
 
 -- ---- both sides of what is sent
 
@@ -262,49 +269,49 @@ there_is i w v f state is made =
     (s.0, of_some (λ t. v ≡ f t) (slice_get w.sessions i) s.0 s.1 made, s.2)
 
 pub called_adds : {T E : Type 0} (made : Result T E) (i : ℕ) (w v : World) (state : SessionState) (call : CallEffect) (cs : List Change) → option_map session_of (Some state) ≡ option_map unmarked (slice_get w.sessions i)
-    → call.commit ≡ cs → OnOk made (OfSession i w (λ s. v ≡ called_with i call w s)) → OnOk made (Adds false (at_home state.at cs) (at_away state.at cs) w v)
+    → call.commit ≡ cs → OnOk made (OfSession i w (λ s. v ≡ called_with i call w s)) → OnOk made (Adds i false (at_home state.at cs) (at_away state.at cs) w v)
 called_adds made i w v state call cs is commit_is h = ok_from made h (λ o.
     let s = there_is i w v (called_with i call w) state is o in
     let at : s.0.at ≡ state.at = sym (ap (λ (t : Session). t.at) s.2) in
-    subst (λ (d : DbId). Adds false (at_home d cs) (at_away d cs) w v) at
-    (subst (λ (l : List Change). Adds false (at_home s.0.at l) (at_away s.0.at l) w v) commit_is
-    (subst (Adds false (at_home s.0.at call.commit) (at_away s.0.at call.commit) w) (sym s.1) (adds_called i w s.0 call))))
+    subst (λ (d : DbId). Adds i false (at_home d cs) (at_away d cs) w v) at
+    (subst (λ (l : List Change). Adds i false (at_home s.0.at l) (at_away s.0.at l) w v) commit_is
+    (subst (Adds i false (at_home s.0.at call.commit) (at_away s.0.at call.commit) w) (sym s.1) (adds_called i w s.0 call))))
 
 pub parked_adds : {T E : Type 0} (made : Result T E) (i since : ℕ) (w v : World) (state : SessionState) → option_map session_of (Some state) ≡ option_map unmarked (slice_get w.sessions i)
-    → is_some state.parked ≡ false → OnOk made (OfSession i w (λ s. v ≡ parked i s since w)) → OnOk made (Adds false [] [] w v)
+    → is_some state.parked ≡ false → OnOk made (OfSession i w (λ s. v ≡ parked i s since w)) → OnOk made (Adds i false [] [] w v)
 parked_adds made i since w v state is none h = ok_from made h (λ o.
     let s = there_is i w v (λ t. parked i t since w) state is o in
     let still : is_some s.0.parked ≡ false = sym (ap (λ (t : Session). is_some t.parked) s.2) ∙ none in
-    subst (Adds false [] [] w) (sym s.1) (adds_parked i since w s.0 still))
+    subst (Adds i false [] [] w) (sym s.1) (adds_parked i since w s.0 still))
 
 pub ended_adds : {T E : Type 0} (made : Result T E) (i : ℕ) (w v : World) (state : SessionState) → option_map session_of (Some state) ≡ option_map unmarked (slice_get w.sessions i)
-    → OnOk made (OfSession i w (λ s. v ≡ ended i s w)) → OnOk made (Adds false [] [] w v)
+    → OnOk made (OfSession i w (λ s. v ≡ ended i s w)) → OnOk made (Adds i false [] [] w v)
 ended_adds made i w v state is h = ok_from made h (λ o.
-    let s = there_is i w v (λ t. ended i t w) state is o in subst (Adds false [] [] w) (sym s.1) (adds_ended i w s.0))
+    let s = there_is i w v (λ t. ended i t w) state is o in subst (Adds i false [] [] w) (sym s.1) (adds_ended i w s.0))
 
 pub stepped_adds : {T E : Type 0} (made : Result T E) (actor : ℕ) (w v : World) (home away h a : List Change) (step : Step) → is_flush step ≡ false → h ≡ home → a ≡ away
-    → OnOk made (v ≡ stepped actor w h a step) → OnOk made (Adds false home away w v)
+    → OnOk made (v ≡ stepped actor w h a step) → OnOk made (Adds actor false home away w v)
 stepped_adds made actor w v home away h a step quiet at_h at_a did = ok_from made did (λ is.
-    subst (Adds false home away w) (sym (is ∙ ap (λ (l : List Change). stepped actor w l a step) at_h ∙ ap (λ (l : List Change). stepped actor w home l step) at_a)) (adds_stepped false actor w home away step quiet))
+    subst (Adds actor false home away w) (sym (is ∙ ap (λ (l : List Change). stepped actor w l a step) at_h ∙ ap (λ (l : List Change). stepped actor w home l step) at_a)) (adds_stepped false actor w home away step quiet))
 
-pub offered_adds : {T E : Type 0} (made : Result T E) (actor : ℕ) (w v : World) (at : SlotRef) (to : List ℕ) → OnOk made (v ≡ sent actor (offers at to) w) → OnOk made (Adds false [] [] w v)
-offered_adds made actor w v at to did = ok_from made did (λ is. subst (Adds false [] [] w) (sym is) (adds_offered actor w at to))
+pub offered_adds : {T E : Type 0} (made : Result T E) (actor : ℕ) (w v : World) (at : SlotRef) (to : List ℕ) → OnOk made (v ≡ sent actor (offers at to) w) → OnOk made (Adds actor false [] [] w v)
+offered_adds made actor w v at to did = ok_from made did (λ is. subst (Adds actor false [] [] w) (sym is) (adds_offered actor w at to))
 
 pub arrived_adds : {T E : Type 0} (made : Result T E) (actor : ℕ) (w v : World) (at : SlotRef) (a : Arriving) (home away : List Change) → home_of at.db a.origin a.there ≡ home → away_of at.db a.origin a.there ≡ away
-    → OnOk made (v ≡ sent actor (arrives at a) w) → OnOk made (Adds false home away w v)
+    → OnOk made (v ≡ sent actor (arrives at a) w) → OnOk made (Adds actor false home away w v)
 arrived_adds made actor w v at a home away at_h at_a did = ok_from made did (λ is.
-    subst (λ (l : List Change). Adds false l away w v) at_h (subst (λ (l : List Change). Adds false (home_of at.db a.origin a.there) l w v) at_a
-    (subst (Adds false (home_of at.db a.origin a.there) (away_of at.db a.origin a.there) w) (sym is) (adds_arrived actor w at a))))
+    subst (λ (l : List Change). Adds actor false l away w v) at_h (subst (λ (l : List Change). Adds actor false (home_of at.db a.origin a.there) l w v) at_a
+    (subst (Adds actor false (home_of at.db a.origin a.there) (away_of at.db a.origin a.there) w) (sym is) (adds_arrived actor w at a))))
 
 pub confirmed_adds : {T E : Type 0} (made : Result T E) (actor : ℕ) (w v : World) (at : SlotRef) (cs more : List Change) → more ≡ cs → OnOk made ((number : ℕ) → v ≡ sent actor (confirms at number more) w)
-    → OnOk made (Adds false (at_home at.db cs) (at_away at.db cs) w v)
+    → OnOk made (Adds actor false (at_home at.db cs) (at_away at.db cs) w v)
 confirmed_adds made actor w v at cs more same did = ok_from made did (λ is.
-    subst (λ (l : List Change). Adds false (at_home at.db l) (at_away at.db l) w v) same (subst (Adds false (at_home at.db more) (at_away at.db more) w) (sym (is 0)) (adds_confirmed actor w at 0 more)))
+    subst (λ (l : List Change). Adds actor false (at_home at.db l) (at_away at.db l) w v) same (subst (Adds actor false (at_home at.db more) (at_away at.db more) w) (sym (is 0)) (adds_confirmed actor w at 0 more)))
 
 pub told_adds : (i number : ℕ) (w v : World) (state : SessionState) → option_map session_of (Some state) ≡ option_map unmarked (slice_get w.sessions i)
-    → flushed i w ≡ w → OfSession i w (λ s. v ≡ told i s number w) → Adds false [] [] w v
+    → flushed i w ≡ w → OfSession i w (λ s. v ≡ told i s number w) → Adds i false [] [] w v
 told_adds i number w v state is same o =
-    let s = there_is i w v (λ t. told i t number w) state is o in subst (Adds false [] [] w) (sym s.1) (adds_told i number w s.0 same)
+    let s = there_is i w v (λ t. told i t number w) state is o in subst (Adds i false [] [] w) (sym s.1) (adds_told i number w s.0 same)
 
 -- what was promised for it is taken
 pub told_takes : (i number : ℕ) (w v : World) (state : SessionState) → option_map session_of (Some state) ≡ option_map unmarked (slice_get w.sessions i)

@@ -1,3 +1,4 @@
+pub mod Brief
 pub mod Counted
 pub mod Going
 pub mod Held

@@ -2,6 +2,7 @@
 ghost use Rattle.std.specs.Prelude.{◌≡◌, [], IfOk, IfErr, map};
 ghost use Rattle.queue_rows.specs.World.{uncounted, opened};
 ghost use Rattle.run_state.specs.Entries.{BeginsAs};
+ghost use Rattle.durable_state.specs.Brief.{AreBrief};
 ghost use Rattle.durable_state.specs.Mounting.{IsMountedOn};
 ghost use Rattle.durable_state.specs.Survival.{Begun, Survives};
 
@@ -32,6 +33,7 @@ impl<D: Disk> Model for DurableState<D> {
     ghost use Rattle.rule_conditions.specs.contracts.condition.Cond as cond;
     ghost use Rattle.run_state.specs.Promises.{promised};
     ghost use Rattle.run_state.specs.Reserved.{HasPlaces};
+    ghost use Rattle.durable_state.specs.Brief.{IsBrief};
     ghost use Rattle.durable_state.specs.Counted.{counted};
     ghost use Rattle.durable_state.specs.Held.{Held};
 
@@ -49,6 +51,12 @@ impl<D: Disk> Model for DurableState<D> {
     ghost invariant = { λ s. record {
       few : length s.logs.calls.items ≡ length s.state.entries;
       room : HasPlaces (promised s.state) s.logs.calls;
+      brief : IsBrief D.calls (record {
+        world = s.state;
+        entries = counted s.state.entries s.logs.calls.items;
+        home = s.logs.home;
+        away = s.logs.away;
+      });
     } };
 }
 
@@ -121,6 +129,9 @@ impl<D: Disk> DurableState<D> {
         ensures entries { result.history.entries ≡ self.entries }
         ensures uncounted { map uncounted result.history.entries ≡ self.world.entries }
         ensures begins { BeginsAs self.world result.history }
+
+        // Each flush made few calls on the disks.
+        ensures brief { AreBrief result.history.entries }
         ensures home { result.home ≡ self.home.disk }
         ensures away { result.away ≡ self.away.disk }
     {

@@ -2,7 +2,7 @@
 ghost use Rattle.std.specs.Prelude.{◌≡◌, IsSome, OnOk, OnErr};
 ghost use Rattle.queue_rows.specs.Turns.{flushed, told};
 ghost use Rattle.run_state.specs.Sessions.{OfSession};
-ghost use Rattle.durable_state.specs.Going.{Goes};
+ghost use Rattle.durable_state.specs.Going.{AddsEntries, Goes};
 ghost use Rattle.durable_state.specs.Held.{HasFailed};
 
 use crate::broken::Halted;
@@ -15,6 +15,7 @@ impl<D: Disk> DurableState<D> {
     pub fn flush(&mut self, actor: u32) -> Result<(), Halted>
         ensures ok { OnOk result (self.new.world ≡ flushed actor self.old.world) }
         ensures err { OnErr result (self.new.world ≡ self.old.world) }
+        ensures adds { AddsEntries actor self.old self.new }
         ensures disks { Goes D.seen D.is_image D.calls D.faults self.old self.new }
         ensures halted { OnErr result (HasFailed self.new) }
         ensures unfailed { OnOk result (HasFailed self.new → ⊥) }
@@ -38,6 +39,7 @@ impl<D: Disk> DurableState<D> {
         ensures ok { OnOk result (OfSession at self.old.world (λ s.
             self.new.world ≡ told at s number self.old.world)) }
         ensures err { OnErr result (self.new.world ≡ self.old.world) }
+        ensures adds { AddsEntries at self.old self.new }
         ensures disks { Goes D.seen D.is_image D.calls D.faults self.old self.new }
         ensures halted { OnErr result (HasFailed self.new) }
         ensures fine { OnOk result (HasFailed self.new → HasFailed self.old) }

@@ -1,5 +1,5 @@
 // What a step does to one log.
-ghost use Rattle.std.specs.Prelude.{◌≡◌, ◌≤◌, ◌<◌, ℕ, [], None, IsSome, IfOk, OnOk, OnErr, length, true};
+ghost use Rattle.std.specs.Prelude.{◌≡◌, ◌≤◌, ◌<◌, ◌+◌, ℕ, [], None, IsSome, IfOk, OnOk, OnErr, length, true};
 ghost use Rattle.durable_state.specs.Queueing.{Queues, unqueueing};
 ghost use Rattle.durable_state.specs.Writing.{Flushes, Writes};
 
@@ -57,6 +57,7 @@ pub(crate) fn append<D: Disk>(log: &mut CommitLog<D>) -> Result<(), JournalFault
     ensures writes { Writes D.seen D.is_image D.calls D.faults log.old log.new }
     ensures flushes { OnOk result (Flushes D.seen D.is_image D.calls log.old log.new) }
     ensures failed { OnErr result (IsSome log.new.failed_at) }
+    ensures number { D.calls log.new.disk ≤ D.calls log.old.disk + 4 }
 {
     calls_pass::<D>();
     flush_comes::<D>();

@@ -216,6 +216,8 @@ impl<D: Disk> RunLogs<D> {
         ensures away_flushes { OnOk result (Flushes D.seen D.is_image D.calls self.old.away self.new.away) }
         ensures calls { self.new.calls ≡ self.old.calls }
         ensures failed { OnErr result (IsSome self.new.home.failed_at ⊎ IsSome self.new.away.failed_at) }
+        ensures home_number { D.calls self.new.home.disk ≤ D.calls self.old.home.disk + 4 }
+        ensures away_number { D.calls self.new.away.disk ≤ D.calls self.old.away.disk + 4 }
     {
         append(&mut self.home)?;
         append(&mut self.away)

@@ -1,13 +1,13 @@
 // The steps of a run that make no call on a disk. What they commit is queued in the logs, and made durable by the next flush.
-ghost use Rattle.std.specs.Prelude.{◌≡◌, ◌<◌, ◌+◌, ◌^◌, ℕ, OnOk, OnErr};
+ghost use Rattle.std.specs.Prelude.{◌≡◌, ◌<◌, ◌+◌, ◌^◌, ℕ, OnOk, OnErr, IsOk};
 ghost use Rattle.propagation.specs.Outcomes.{meant};
 ghost use Rattle.queue_rows.specs.declared.history.Step.TheVariants.{Timer};
 ghost use Rattle.queue_rows.specs.World.{other_db, database_at, read_clock, stepped};
 ghost use Rattle.queue_rows.specs.Sending.{offers, arrives, confirms, sent, home_of, away_of};
 ghost use Rattle.queue_rows.specs.Turns.{parked, ended};
 ghost use Rattle.run_state.specs.CallEffects.{IsCallable, called_with};
-ghost use Rattle.run_state.specs.Sessions.{OfSession};
-ghost use Rattle.durable_state.specs.Going.{Goes};
+ghost use Rattle.run_state.specs.Sessions.{IsAbsent, OfSession};
+ghost use Rattle.durable_state.specs.Going.{AddsEntries, Goes};
 ghost use Rattle.durable_state.specs.Held.{HasFailed};
 
 use crate::durable_state::DurableState;
@@ -36,18 +36,21 @@ impl<D: Disk> DurableState<D> {
     pub fn read_clock(&mut self, reading: u64)
         requires { self.old.world.readings + 1 < 2 ^ 64 }
         ensures world { self.new.world ≡ read_clock reading self.old.world }
+        ensures entries { self.new.entries ≡ self.old.entries }
         ensures disks { Goes D.seen D.is_image D.calls D.faults self.old self.new }
         ensures fine { HasFailed self.new → HasFailed self.old }
     {
         self.state.read_clock(reading);
     }
 
-    /// The session of that number makes this call. At want of memory all is as before.
+    /// The session of that number makes this call, if there is one. At want of memory all is as before.
     pub fn call(&mut self, at: u32, effect: CallEffect) -> Result<(), AllocError>
         requires { OfSession at self.old.world (λ s. IsCallable self.old.world at s effect) }
         ensures ok { OnOk result (OfSession at self.old.world (λ s.
             self.new.world ≡ called_with at effect self.old.world s)) }
+        ensures absent { IsAbsent at self.old.world → IsOk result × (self.new ≡ self.old) }
         ensures err { OnErr result (self.new.world ≡ self.old.world) }
+        ensures adds { AddsEntries at self.old self.new }
         ensures disks { Goes D.seen D.is_image D.calls D.faults self.old self.new }
         ensures fine { HasFailed self.new → HasFailed self.old }
     {
@@ -73,12 +76,15 @@ impl<D: Disk> DurableState<D> {
         made
     }
 
-    /// The next statement of the session of that number waits since that moment, which is noted once. At want of memory all is as before.
+    /// The next statement of the session of that number, if there is one, waits since that moment, which is noted once. At want of memory
+    /// all is as before.
     pub fn park(&mut self, at: u32, since: u64) -> Result<(), AllocError>
         requires { OfSession at self.old.world (λ s. s.next + 1 < 2 ^ 32) }
         ensures ok { OnOk result (OfSession at self.old.world (λ s.
             self.new.world ≡ parked at s since self.old.world)) }
+        ensures absent { IsAbsent at self.old.world → IsOk result × (self.new ≡ self.old) }
         ensures err { OnErr result (self.new.world ≡ self.old.world) }
+        ensures adds { AddsEntries at self.old self.new }
         ensures disks { Goes D.seen D.is_image D.calls D.faults self.old self.new }
         ensures fine { HasFailed self.new → HasFailed self.old }
     {
@@ -94,11 +100,13 @@ impl<D: Disk> DurableState<D> {
         made
     }
 
-    /// Ends the session of that number. At want of memory all is as before.
+    /// Ends the session of that number, if there is one. At want of memory all is as before.
     pub fn end(&mut self, at: u32) -> Result<(), AllocError>
         ensures ok { OnOk result (OfSession at self.old.world (λ s.
             self.new.world ≡ ended at s self.old.world)) }
+        ensures absent { IsAbsent at self.old.world → IsOk result × (self.new ≡ self.old) }
         ensures err { OnErr result (self.new.world ≡ self.old.world) }
+        ensures adds { AddsEntries at self.old self.new }
         ensures disks { Goes D.seen D.is_image D.calls D.faults self.old self.new }
         ensures fine { HasFailed self.new → HasFailed self.old }
     {
@@ -120,6 +128,7 @@ impl<D: Disk> DurableState<D> {
     ) -> Result<(), AllocError>
         ensures ok { OnOk result (self.new.world ≡ stepped actor self.old.world home away Timer) }
         ensures err { OnErr result (self.new.world ≡ self.old.world) }
+        ensures adds { AddsEntries actor self.old self.new }
         ensures disks { Goes D.seen D.is_image D.calls D.faults self.old self.new }
         ensures fine { HasFailed self.new → HasFailed self.old }
     {
@@ -133,6 +142,7 @@ impl<D: Disk> DurableState<D> {
     pub fn offer(&mut self, actor: u32, at: SlotRef, to: Name) -> Result<(), AllocError>
         ensures ok { OnOk result (self.new.world ≡ sent actor (offers at to) self.old.world) }
         ensures err { OnErr result (self.new.world ≡ self.old.world) }
+        ensures adds { AddsEntries actor self.old self.new }
         ensures disks { Goes D.seen D.is_image D.calls D.faults self.old self.new }
         ensures fine { HasFailed self.new → HasFailed self.old }
     {
@@ -147,6 +157,7 @@ impl<D: Disk> DurableState<D> {
         requires { (database_at (other_db at.db) self.old.world).next + 1 < 2 ^ 64 }
         ensures ok { OnOk result (self.new.world ≡ sent actor (arrives at (meant arriving)) self.old.world) }
         ensures err { OnErr result (self.new.world ≡ self.old.world) }
+        ensures adds { AddsEntries actor self.old self.new }
         ensures disks { Goes D.seen D.is_image D.calls D.faults self.old self.new }
         ensures fine { HasFailed self.new → HasFailed self.old }
     {
@@ -178,6 +189,7 @@ impl<D: Disk> DurableState<D> {
         ensures ok { OnOk result ((number : ℕ) →
             self.new.world ≡ sent actor (confirms at number changes) self.old.world) }
         ensures err { OnErr result (self.new.world ≡ self.old.world) }
+        ensures adds { AddsEntries actor self.old self.new }
         ensures disks { Goes D.seen D.is_image D.calls D.faults self.old self.new }
         ensures fine { HasFailed self.new → HasFailed self.old }
     {
