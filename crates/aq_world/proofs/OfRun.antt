@@ -1,11 +1,11 @@
 -- No turn changes how the run began.
-use Rattle.std.proofs.Common.{◌≡◌, ℕ, zero, suc, ◌+◌, Bool, true, false, List, [], Option, Some, None, refl, sym, subst, ◌∙◌}
-use Rattle.std.specs.Prelude.{slice_get, is_some, if◌then◌else◌}
+use Rattle.std.proofs.Common.{◌≡◌, inl, inr, ℕ, zero, suc, ◌+◌, Bool, true, false, List, [], Option, Some, None, Result, refl, sym, subst, ◌∙◌}
+use Rattle.std.specs.Prelude.{◌==◌, Ok, Err, OnOk, OnErr, slice_get, is_some, if◌then◌else◌}
 use Rattle.aq_base.specs.declared.DbId.{DbId}
 use Rattle.aq_base.specs.declared.DbId.TheVariants.{Home, Away}
 use Rattle.queue_rows.specs.Session.{Session, Untold}
 use Rattle.queue_rows.specs.Meaning.{Meaning, answers, parks}
-use Rattle.queue_rows.specs.Turns.{ids_taken, due_at, begun, caught_up, timed, is_due, called, turned_by, own_turn, is_durable, flushed, all_durable, told, propagated, propagated_by, turn_of, turn_of_some, session_turn, telling_of, telling_of_some, telling_turn, timer_turn, propagator_turn, any_live, drained}
+use Rattle.queue_rows.specs.Turns.{ids_taken, due_at, begun, caught_up, timed, is_due, called, turned_by, own_turn, is_durable, flushed, all_durable, told, propagated, propagated_by, turn_of, turn_of_some, session_turn, telling_of, telling_of_some, telling_turn, timer_turn, propagator_turn, any_live, drained, closing_turn}
 use Rattle.queue_rows.specs.World.{at_home, at_away, other_db, World, read_clock, stepped, with_session}
 use Rattle.queue_rows.specs.declared.change.Change.{Change}
 use Rattle.queue_rows.specs.declared.history.Step.{Step}
@@ -14,7 +14,8 @@ use Rattle.queue_rows.specs.declared.reply.Reply.{Reply}
 use Rattle.queue_rows.specs.declared.statement.Statement.{Statement}
 use Rattle.queue_rows.specs.Statements.{meaning, next_statement}
 use Rattle.queue_rows.specs.Sending.{Sending, offers, arrives, confirms, next_sending, may_follow, sent, taking_ids, ids_copied, home_of, away_of}
-use Rattle.aq_world.specs.Turning.{IsOfRun}
+use Rattle.run_state.specs.Entries.{IsUntold}
+use Rattle.aq_world.specs.Turning.{IsBrokenOff, IsOfRun, IsUndone, broken_if, is_session, reads_clock, turned}
 
 pub of_run-refl : (w : World) → IsOfRun w w
 of_run-refl w = record { home = refl; away = refl; opening = refl; scripts = refl }
@@ -162,3 +163,45 @@ unfolding propagator_turn
 of_run-propagator_turn reading w =
     let v = begun 65 reading w in
     of_run_if (any_live w) (propagated 65 v) w w (of_run-trans w v (propagated 65 v) (of_run-begun 65 reading w) (of_run-propagated 65 v)) (of_run-refl w)
+
+of_run_whole : (b c : Bool) (reading actor : ℕ) (w : World) → IsOfRun w (if b then session_turn reading actor w else (if c then timer_turn reading w else propagator_turn reading w))
+of_run_whole true c reading actor w = of_run-session_turn reading actor w
+of_run_whole false true reading actor w = of_run-timer_turn reading w
+of_run_whole false false reading actor w = of_run-propagator_turn reading w
+
+of_run-whole : (reading actor : ℕ) (w : World) → IsOfRun w (turned reading actor w)
+of_run-whole reading actor w = of_run_whole (is_session actor) (actor == 64) reading actor w
+
+-- ---- turns that are broken off
+
+of_run-undone : (actor reading : ℕ) (w new : World) → IsUndone actor reading w new → IsOfRun w new
+of_run-undone actor reading w new (inl e) = of_run-along w (read_clock reading w) new e (of_run-read reading w)
+of_run-undone actor reading w new (inr (inl e)) = of_run-along w (begun actor reading w) new e (of_run-begun actor reading w)
+of_run-undone actor reading w new (inr (inr e)) =
+    let v = begun actor reading w in
+    of_run-along w (flushed actor v) new e (of_run-trans w v (flushed actor v) (of_run-begun actor reading w) (of_run-flushed actor v))
+
+of_run-untold : (actor : ℕ) (w new : World) → IsUntold actor w new → IsOfRun w new
+of_run-untold actor w new (inl e) = of_run-same w new e
+of_run-untold actor w new (inr e) = of_run-along w (flushed actor w) new e (of_run-flushed actor w)
+
+of_run_broken : (b : Bool) (actor reading : ℕ) (w new : World) → broken_if b actor reading w new → IsOfRun w new
+of_run_broken true actor reading w new u = of_run-undone actor reading w new u
+of_run_broken false actor reading w new u = of_run-untold actor w new u
+
+-- a turn, whole or broken off
+pub turn_of_run : {T E : Type 0} (turn : Result T E) (reading actor : ℕ) (w new : World) → OnOk turn (new ≡ turned reading actor w) → OnErr turn (IsBrokenOff actor reading w new) → IsOfRun w new
+turn_of_run (Ok x) reading actor w new ok err = of_run-along w (turned reading actor w) new ok (of_run-whole reading actor w)
+turn_of_run (Err x) reading actor w new ok err = of_run_broken (reads_clock actor w) actor reading w new err
+
+-- ---- the closing turn
+
+of_run-closing : (reading steps : ℕ) (w : World) → IsOfRun w (closing_turn reading steps w)
+unfolding closing_turn
+of_run-closing reading steps w =
+    let v = read_clock reading w in
+    let d = drained steps v in
+    of_run-trans w v (flushed 66 d) (of_run-read reading w) (of_run-trans v d (flushed 66 d) (of_run-drained steps v) (of_run-flushed 66 d))
+
+pub closed_of_run : (reading steps : ℕ) (w new : World) → new ≡ closing_turn reading steps w → IsOfRun w new
+closed_of_run reading steps w new e = of_run-along w (closing_turn reading steps w) new e (of_run-closing reading steps w)

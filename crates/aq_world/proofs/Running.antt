@@ -1,6 +1,6 @@
 -- Legal steps lead to the world behind each turn, also behind one that is broken off.
 use Rattle.std.proofs.Common.{◌≡◌, ◌<◌, ◌≤◌, ◌+◌, ◌++◌, ◌∷◌, inl, inr, ℕ, List, [], Bool, true, false, Option, Some, None, Result, refl, sym, ap, subst, ◌∙◌, arith, length, length-append, get_or}
-use Rattle.std.specs.Prelude.{◌^◌, ◌⊎◌, IsSome, Ok, Err, OnOk, OnErr, IfOk, MatchResult, ◌==◌, ◌||◌, nat_lt, slice_get, is_some, not, if◌then◌else◌}
+use Rattle.std.specs.Prelude.{◌^◌, ◌⊎◌, IsSome, Ok, Err, OnOk, OnErr, IfOk, IfErr, MatchResult, ◌==◌, ◌||◌, nat_lt, slice_get, is_some, not, if◌then◌else◌}
 use Rattle.std.proofs.lemmas.Bool.{lt-ltb, or_left, false≢true}
 use Rattle.std.proofs.Math.Seq.{get_or-append_seam}
 use Rattle.std.proofs.lemmas.List.Elements.{All-nil}
@@ -32,13 +32,13 @@ use Rattle.durable_state.specs.declared.broken.Broken.TheVariants as reasons
 use Rattle.aq_world.specs.Clocked.{IsClocked, Reads, TakesReading}
 use Rattle.aq_world.specs.Going.{GoesAs}
 use Rattle.aq_world.specs.Sound.{IsSound, IsSoundSession, IsRunning, start_of}
-use Rattle.aq_world.specs.Turning.{IsActor, IsUndone, IsBrokenOff, IsPartOfStep, IsPartDrained, IsDrainable, IsOfRun, IsWhole, broken_end, broken_if, reads_clock, is_session, turned, next_meaning, end_by, session_end, background_end, timer_end, propagator_end, turn_end}
+use Rattle.aq_world.specs.Turning.{IsActor, IsUndone, IsBrokenOff, IsPartOfStep, IsPartDrained, IsDrainable, IsOfRun, IsWhole, broken_end, broken_if, reads_clock, is_owed, is_session, turned, next_meaning, end_by, session_end, background_end, timer_end, propagator_end, turn_end}
 use Rattle.aq_world.specs.declared.turn_end.TurnEnd.{TurnEnd}
 use Rattle.aq_world.specs.declared.turn_end.TurnEnd.TheVariants as ends
-use Rattle.aq_world.proofs.OfRun.{of_run-along, of_run-caught_up, of_run-drained, of_run-flushed, of_run-read, of_run-same, of_run-trans}
+use Rattle.aq_world.proofs.OfRun.{closed_of_run, of_run-along, of_run-caught_up, of_run-drained, of_run-flushed, of_run-read, of_run-same, of_run-trans}
 use Rattle.aq_world.proofs.Readings.{closing_readings, plus, readings_taken}
 use Rattle.aq_world.proofs.Soundness.{sound_opened, sound_read, step_sound}
-use Rattle.aq_world.proofs.Turning.{timer_actor, sender_actor}
+use Rattle.aq_world.proofs.Turning.{owed_there, owed_end, timer_actor, sender_actor}
 
 -- each legal world is sound
 sound_from : (start : World) → IsSound start → (readings : List ℕ) (w : World) → IsLegal start readings w → IsSound w
@@ -240,6 +240,11 @@ part_of_run reading w new p =
     let v = drained p.0 u in
     of_run-trans w v new (of_run-trans w u v (of_run-read reading w) (of_run-drained p.0 u)) (part_by v new p.1)
 
+pub closing_of_run : {T E : Type 0} (turn : Result T E) (reading : ℕ) (w new : World) → OnOk turn ((steps : ℕ) × DrainsIn (read_clock reading w) steps × (new ≡ closing_turn reading steps w))
+    → OnErr turn (IsPartDrained (read_clock reading w) new) → IsOfRun w new
+closing_of_run (Ok x) reading w new ok err = closed_of_run reading ok.0 w new ok.2
+closing_of_run (Err e) reading w new ok err = part_of_run reading w new err
+
 -- ---- whole turns
 
 whole_by : (m : Option Meaning) → IsWhole (end_by m)
@@ -329,11 +334,11 @@ halted_back (Ok x) t m e = absurd (cc)
 halted_back (Err reasons.Halted) t m e = m
 halted_back (Err reasons.Memory) t m e = absurd (cc)
 
-module _ {D : Type 0} {seen : D → Option (List ℕ)} {images : D → ℕ → List ℕ → Type 0} {calls faults : D → ℕ} where
-  pub turn_halted : (turn : Result TurnEnd Broken) (t : TurnEnd) (old new : Held D) → EndsAs turn t → IfOk turn IsWhole → GoesAs seen images calls faults turn old new → t ≡ ends.Halted → HasFailed new
+module _ {D : Type 0} {actor : ℕ} {seen : D → Option (List ℕ)} {images : D → ℕ → List ℕ → Type 0} {calls faults : D → ℕ} where
+  pub turn_halted : (turn : Result TurnEnd Broken) (t : TurnEnd) (old new : Held D) → EndsAs turn t → IfOk turn IsWhole → GoesAs actor seen images calls faults turn old new → t ≡ ends.Halted → HasFailed new
   turn_halted turn t old new m whole step e = step.halted (halted_so turn t m e whole)
 
-  pub turn_fine : (turn : Result TurnEnd Broken) (t : TurnEnd) (old new : Held D) → EndsAs turn t → GoesAs seen images calls faults turn old new → (t ≡ ends.Halted → ⊥) → HasFailed new → HasFailed old
+  pub turn_fine : (turn : Result TurnEnd Broken) (t : TurnEnd) (old new : Held D) → EndsAs turn t → GoesAs actor seen images calls faults turn old new → (t ≡ ends.Halted → ⊥) → HasFailed new → HasFailed old
   turn_fine turn t old new m step other failed = step.fine (λ e. other (halted_back turn t m e)) failed
 
 -- a turn that ended is whole
@@ -373,6 +378,18 @@ timer_ended reading w = refl
 pub propagator_ended : (reading : ℕ) (w : World) → background_end reading 65 w ≡ turn_end reading 65 w
 unfolding turn_end
 propagator_ended reading w = refl
+
+-- a session that is to be told is told
+told_ends : (reading actor : ℕ) (w : World) → length w.sessions ≤ 64 → is_owed (slice_get w.sessions actor) ≡ true → turn_end reading actor w ≡ ends.Done
+told_ends reading actor w few owed =
+    let there = owed_there w actor (slice_get w.sessions actor) refl owed in
+    sym (session_ends reading w actor (omega (arith, few, there))) ∙ owed_end reading actor (slice_get w.sessions actor) w owed
+
+-- or a disk stands in the way
+pub turn_told : (turn : Result TurnEnd Broken) (t : TurnEnd) (reading actor : ℕ) (w : World) → EndsAs turn t → IfOk turn (λ x. x ≡ turn_end reading actor w) → IfErr turn (λ why. why ≡ reasons.Halted) → length w.sessions ≤ 64
+    → is_owed (slice_get w.sessions actor) ≡ true → (t ≡ ends.Done) ⊎ (t ≡ ends.Halted)
+turn_told (Ok x) t reading actor w m e why few owed = inl (m ∙ e ∙ told_ends reading actor w few owed)
+turn_told (Err x) t reading actor w m e why few owed = inr (m ∙ ap broken_end why)
 
 -- an actor that is no session and not the timer is the propagator
 pub is_propagator : (w : World) (actor : ℕ) → IsActor w actor → length w.sessions ≤ 64 → 64 < actor → actor ≡ 65

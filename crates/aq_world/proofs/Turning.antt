@@ -1,7 +1,7 @@
 -- What turns come to.
-use Rattle.std.proofs.Common.{◌≡◌, ◌<◌, ◌-◌, ◌^◌, inl, inr, ℕ, suc, Bool, true, false, not, Option, Some, None, Result, refl, sym, ap, subst, ◌∙◌, option_map, arith}
-use Rattle.std.specs.Prelude.{Ok, Err, OnOk, OnErr, ◌||◌, ◌&&◌, ◌==◌, nat_lt, slice_get, is_some, if◌then◌else◌, IfSome, IsSome, length}
-use Rattle.std.proofs.lemmas.Bool.{or_left, or_right, lt-ltb, le-ltb}
+use Rattle.std.proofs.Common.{◌≡◌, ◌<◌, ◌≤◌, ◌-◌, ◌^◌, inl, inr, ℕ, suc, Bool, true, false, not, Option, Some, None, Result, refl, sym, ap, subst, ◌∙◌, option_map, arith}
+use Rattle.std.specs.Prelude.{Ok, Err, OnOk, OnErr, IfErr, ◌||◌, ◌&&◌, ◌==◌, nat_lt, slice_get, is_some, if◌then◌else◌, IfSome, IsSome, length}
+use Rattle.std.proofs.lemmas.Bool.{or_left, or_right, lt-ltb, le-ltb, false≢true}
 use Rattle.std.proofs.lemmas.Option.{none-some, slice_get_within}
 use Rattle.queue_rows.specs.Order.{IsFront}
 use Rattle.queue_rows.specs.Session.{Session, Untold}
@@ -21,8 +21,10 @@ use Rattle.run_turns.proofs.Parts.{session_none, session_tells, session_over, se
 use Rattle.run_turns.proofs.Resting.{drained_once-still}
 use Rattle.run_state.specs.Entries.{IsUntold}
 use Rattle.run_state.specs.Sessions.{OfSession, session_of, untold_as, unmarked}
+use Rattle.durable_state.specs.declared.broken.Broken.{Broken}
+use Rattle.durable_state.specs.declared.broken.Broken.TheVariants as reasons
 use Rattle.aq_world.specs.Sound.{IsSound}
-use Rattle.aq_world.specs.Turning.{IsOwed, IsCalling, IsUndone, IsBrokenOff, IsPartOfStep, IsPartDrained, IsDrainable, IsUnclosed, broken_if, reads_clock, is_session, next_meaning, end_by, session_end, background_end}
+use Rattle.aq_world.specs.Turning.{IsOwed, IsCalling, IsUndone, IsBrokenOff, IsPartOfStep, IsPartDrained, IsDrainable, IsUnclosed, broken_if, reads_clock, is_owed, is_session, next_meaning, end_by, session_end, background_end}
 use Rattle.aq_world.specs.declared.turn_end.TurnEnd.{TurnEnd}
 use Rattle.aq_world.specs.declared.turn_end.TurnEnd.TheVariants.{Done, Idle, Ended}
 use Rattle.aq_world.proofs.Soundness.{sound_read, step_sound}
@@ -176,6 +178,24 @@ end_owed reading i s u w o e told = ap (λ x. session_end reading i x w) e ∙ r
 
 pub told_end : (reading : ℕ) (w : World) (i n : ℕ) (end : TurnEnd) → IsOwed w i n → end ≡ Done → end ≡ session_end reading i (slice_get w.sessions i) w
 told_end reading w i n end k e = e ∙ sym (end_owed reading i k.session k.untold w (slice_get w.sessions i) k.there k.called)
+
+-- ---- who is owed a reply
+
+pub owed_end : (reading i : ℕ) (o : Option Session) (w : World) → is_owed o ≡ true → session_end reading i o w ≡ Done
+owed_end reading i None w owed = absurd (false≢true owed)
+owed_end reading i (Some s) w owed = ap (λ b. if b then Done else (if s.live then end_by (next_meaning (begun i reading w) i s) else Ended)) owed
+
+pub owed_there : (w : World) (i : ℕ) (o : Option Session) → slice_get w.sessions i ≡ o → is_owed o ≡ true → i < length w.sessions
+owed_there w i None there owed = absurd (false≢true owed)
+owed_there w i (Some s) there owed = slice_get_within w.sessions i s there
+
+-- no session that was told all
+pub told_all : {T : Type 0} (turn : Result T Broken) (w : World) (i : ℕ) → IsCalling w i → is_owed (slice_get w.sessions i) ≡ true → IfErr turn (λ why. why ≡ reasons.Halted)
+told_all turn w i k owed = absurd (false≢true (sym (ap is_owed k.there ∙ ap is_some k.told) ∙ owed))
+
+-- nor the timer and the propagator
+pub never_owed : {T : Type 0} (turn : Result T Broken) (w : World) (actor : ℕ) → length w.sessions ≤ 64 → 64 ≤ actor → is_owed (slice_get w.sessions actor) ≡ true → IfErr turn (λ why. why ≡ reasons.Halted)
+never_owed turn w actor few past owed = let there = owed_there w actor (slice_get w.sessions actor) refl owed in absurd (omega (arith, few, past, there))
 
 -- ---- turns that are broken off
 

@@ -5,6 +5,7 @@ use Rattle.aq_clock.specs.Clock.{HasReading}
 use Rattle.queue_rows.specs.Order.{IsFront}
 use Rattle.queue_rows.specs.Turns.{closing_turn, DrainsIn}
 use Rattle.queue_rows.specs.World.{World, read_clock}
+use Rattle.durable_state.specs.Going.{AddsEntries}
 use Rattle.durable_state.specs.Held.{Held}
 use Rattle.aq_world.specs.Sound.{IsRunning}
 use Rattle.aq_world.specs.Turning.{IsBrokenOff, IsOfRun, IsUnclosed, IsWhole, reads_clock, turned, turn_end}
@@ -38,6 +39,11 @@ Reads given plan true number reading old new = TakesReading given plan number re
 Reads given plan false number reading old new = new ≡ old
 
 -- ---- turns
+
+-- The run goes on by entries of that actor alone, with the disks' call numbers behind them; how it began stays.
+pub record Grows {D : Type 0} (actor : ℕ) (old new : Held D) : Type 0 where
+  pub adds : AddsEntries actor old new
+  pub run : IsOfRun old.world new.world
 
 -- The actor's turn ended so: with the reading that it takes, if it takes one, it was the turn of the definitions, or was broken off.
 pub record IsTurn {D C : Type 0} (given : C → Option (List ℕ)) (plan : C → Option (ℕ → ℕ)) (actor : ℕ) (end : TurnEnd) (old new : Clocked D C) : Type 0 where

@@ -1,17 +1,19 @@
 -- What a part of a turn leaves of the disks.
 use Rattle.std.specs.Prelude.{◌≡◌, ℕ, List, Option, Result, Err}
-use Rattle.durable_state.specs.Going.{Goes}
+use Rattle.durable_state.specs.Going.{AddsEntries, Goes}
 use Rattle.durable_state.specs.Held.{Held, HasFailed}
 use Rattle.durable_state.specs.declared.broken.Broken.{Broken}
 use Rattle.durable_state.specs.declared.broken.Broken.TheVariants.{Halted}
 
--- a crash leaves what it left, and no call on a disk failed
-pub record GoesQuietly {D : Type 0} (seen : D → Option (List ℕ)) (images : D → ℕ → List ℕ → Type 0) (calls faults : D → ℕ) (old new : Held D) : Type 0 where
+-- a crash leaves what it left, the entries that came are that actor's, and no call on a disk failed
+pub record GoesQuietly {D : Type 0} (actor : ℕ) (seen : D → Option (List ℕ)) (images : D → ℕ → List ℕ → Type 0) (calls faults : D → ℕ) (old new : Held D) : Type 0 where
   pub goes : Goes seen images calls faults old new
+  pub adds : AddsEntries actor old new
   pub fine : HasFailed new → HasFailed old
 
--- a crash leaves what it left, and where a call on a disk failed, now or before, it is told just where that stood in the way
-pub record GoesAs {D T : Type 0} (seen : D → Option (List ℕ)) (images : D → ℕ → List ℕ → Type 0) (calls faults : D → ℕ) (result : Result T Broken) (old new : Held D) : Type 0 where
+-- the same where calls on disks are made: where one failed, now or before, it is told just where that stood in the way
+pub record GoesAs {D T : Type 0} (actor : ℕ) (seen : D → Option (List ℕ)) (images : D → ℕ → List ℕ → Type 0) (calls faults : D → ℕ) (result : Result T Broken) (old new : Held D) : Type 0 where
   pub goes : Goes seen images calls faults old new
+  pub adds : AddsEntries actor old new
   pub halted : result ≡ Err Halted → HasFailed new
   pub fine : (result ≡ Err Halted → ⊥) → HasFailed new → HasFailed old

@@ -7,6 +7,7 @@ use Rattle.aq_disk.specs.Causes.{Rose}
 use Rattle.redo_journal.specs.Journaled.{Journaled}
 use Rattle.redo_journal.specs.Runs.{CrashLeaves}
 use Rattle.redo_records.specs.Recovered.{recovered}
+use Rattle.queue_rows.specs.World.{World}
 use Rattle.queue_rows.specs.declared.tables.Tables.{Tables}
 use Rattle.database_recovery.specs.Sound.{IsSound}
 use Rattle.commit_log.specs.Logged.{RecoversSame}
@@ -31,6 +32,10 @@ pub record IsOpened {D : Type 0} (seen : D → Option (List ℕ)) (images : D �
   pub mounted : IsMountedOn seen images calls faults disk t j
   pub recovers : RecoversTo seen disk t
   pub sound : IsSound t
+
+-- both databases of a run began with sound tables
+abbrev pub HasSoundOpenings : World → Type 0
+HasSoundOpenings w = IsSound w.home.opening × IsSound w.away.opening
 
 -- of a settled disk, a crash at any moment leaves what is recovered as it was: tables, or a damage
 abbrev pub KeepsRecovered : {D : Type 0} → (D → Option (List ℕ)) → (D → ℕ → List ℕ → Type 0) → (D → ℕ) → D → D → Type 0

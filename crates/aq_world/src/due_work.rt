@@ -48,7 +48,7 @@ pub fn catch_up<D: Disk>(state: &mut DurableState<D>, actor: u32) -> Result<bool
     ensures ok { OnOk result (state.new.world ≡ caught_up actor state.old.world) }
     ensures due { IfOk result (λ was_due. was_due ≡ is_due state.old.world) }
     ensures err { OnErr result (state.new.world ≡ state.old.world) }
-    ensures disks { GoesQuietly D.seen D.is_image D.calls D.faults state.old state.new }
+    ensures disks { GoesQuietly actor D.seen D.is_image D.calls D.faults state.old state.new }
 {
     let home = due_at(state.run(), DbId::Home)?;
     let away = due_at(state.run(), DbId::Away)?;
@@ -72,7 +72,7 @@ pub fn begin<D: Disk>(
     ensures ok { OnOk result (state.new.world ≡ begun actor reading state.old.world) }
     ensures due { IfOk result (λ was_due. was_due ≡ is_due (read_clock reading state.old.world)) }
     ensures err { OnErr result (state.new.world ≡ read_clock reading state.old.world) }
-    ensures disks { GoesQuietly D.seen D.is_image D.calls D.faults state.old state.new }
+    ensures disks { GoesQuietly actor D.seen D.is_image D.calls D.faults state.old state.new }
 {
     state.read_clock(reading);
     catch_up(state, actor)

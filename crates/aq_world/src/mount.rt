@@ -1,11 +1,10 @@
 // The journals of both databases are mounted.
 ghost use Rattle.std.specs.Prelude.{◌≡◌, [], IfOk, IfErr};
-ghost use Rattle.database_recovery.specs.Sound.{IsSound};
 ghost use Rattle.world_laws.specs.ValidWorld.{AreScripts};
 ghost use Rattle.queue_rows.specs.World.{opened};
 ghost use Rattle.durable_state.specs.Held.{HasFailed};
 ghost use Rattle.durable_state.specs.Survival.{Survives};
-ghost use Rattle.aq_world.specs.Mounting.{HasMountCause, IsLogCause, IsOpened, KeepsRecovered, RecoversTo};
+ghost use Rattle.aq_world.specs.Mounting.{HasMountCause, HasSoundOpenings, IsLogCause, IsOpened, KeepsRecovered, RecoversTo};
 ghost use Rattle.aq_world.specs.Sound.{IsRunning};
 
 use aq_base::DbId;
@@ -124,7 +123,7 @@ pub fn open<D: Disk>(
         w.world ≡ opened w.world.home.opening w.world.away.opening scripts) }
     ensures home { IfOk result (λ w. RecoversTo D.seen home w.world.home.opening) }
     ensures away { IfOk result (λ w. RecoversTo D.seen away w.world.away.opening) }
-    ensures sound { IfOk result (λ w. IsSound w.world.home.opening × IsSound w.world.away.opening) }
+    ensures sound { IfOk result (λ w. HasSoundOpenings w.world) }
     ensures runs { IfOk result (λ w. IsRunning [] w.world) }
     ensures entries { IfOk result (λ w. w.entries ≡ []) }
     ensures begun { IfOk result

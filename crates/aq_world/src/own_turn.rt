@@ -48,7 +48,7 @@ pub fn own_turn<D: Disk>(state: &mut DurableState<D>, at: u32) -> Result<TurnEnd
     ensures end { IfOk result (λ end. OfSession at state.old.world (λ s.
         end ≡ end_by (next_meaning state.old.world at s))) }
     ensures err { OnErr result (state.new.world ≡ state.old.world) }
-    ensures disks { GoesQuietly D.seen D.is_image D.calls D.faults state.old state.new }
+    ensures disks { GoesQuietly at D.seen D.is_image D.calls D.faults state.old state.new }
 {
     match next_doing(state.run(), at)? {
         Some(Doing::Call(effect)) => {

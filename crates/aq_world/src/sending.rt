@@ -166,7 +166,7 @@ fn make_ready<D: Disk>(
     ensures ok { OnOk result
         (state.new.world ≡ made_ready actor (sending_meant sending.now) state.old.world) }
     ensures err { OnErr result (state.new.world ≡ state.old.world) }
-    ensures disks { GoesAs D.seen D.is_image D.calls D.faults result state.old state.new }
+    ensures disks { GoesAs actor D.seen D.is_image D.calls D.faults result state.old state.new }
 {
     if may_follow(state.run(), sending) {
         return Ok(());
@@ -184,7 +184,7 @@ fn send<D: Disk>(
     requires { HasIds state.old.world }
     ensures ok { OnOk result (state.new.world ≡ sent actor (sending_meant sending) state.old.world) }
     ensures err { OnErr result (state.new.world ≡ state.old.world) }
-    ensures disks { GoesQuietly D.seen D.is_image D.calls D.faults state.old state.new }
+    ensures disks { GoesQuietly actor D.seen D.is_image D.calls D.faults state.old state.new }
 {
     match sending {
         Sending::Offer { at, to } => state.offer(actor, at, to),
@@ -203,7 +203,7 @@ pub fn propagate<D: Disk>(state: &mut DurableState<D>, actor: u32) -> Result<boo
     ensures err { OnErr result (IsUntold actor state.old.world state.new.world) }
     ensures front { OnErr result
         (IsFront state.new.world.entries (propagated actor state.old.world).entries) }
-    ensures disks { GoesAs D.seen D.is_image D.calls D.faults result state.old state.new }
+    ensures disks { GoesAs actor D.seen D.is_image D.calls D.faults result state.old state.new }
 {
     let Some(sending) = next_sending(state.run())? else {
         return Ok(false);

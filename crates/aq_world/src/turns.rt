@@ -1,5 +1,5 @@
 // The turns of the sessions, the timer, the propagator and the closing turn.
-ghost use Rattle.std.specs.Prelude.{◌≡◌, ◌<◌, ◌^◌, ℕ, not, length, OnOk, OnErr, IfOk, IfErr, slice_get};
+ghost use Rattle.std.specs.Prelude.{◌≡◌, ◌<◌, ◌^◌, ℕ, not, true, length, OnOk, OnErr, IfOk, IfErr, slice_get};
 ghost use Rattle.queue_rows.specs.Order.{IsFront};
 ghost use Rattle.queue_rows.specs.Turns.{closing_turn, drained, drained_once, is_still, propagator_turn, session_turn, timer_turn, DrainsIn};
 ghost use Rattle.run_laws.specs.ValidRun.{IsValidWorld};
@@ -7,7 +7,7 @@ ghost use Rattle.queue_rows.specs.World.{read_clock};
 ghost use Rattle.aq_world.specs.Going.{GoesAs};
 ghost use Rattle.aq_world.specs.Sound.{IsSound};
 ghost use Rattle.aq_world.specs.Turning.{IsActor, IsBrokenOff, IsCalling, IsDrainable, IsOwed, IsPartDrained, IsPartOfStep, IsUnclosed, IsUndone};
-ghost use Rattle.aq_world.specs.Turning.{background_end, reads_clock, session_end, turn_end, turned};
+ghost use Rattle.aq_world.specs.Turning.{background_end, is_owed, reads_clock, session_end, turn_end, turned};
 ghost use Rattle.aq_world.specs.declared.turn_end.TurnEnd.TheVariants.{Done};
 
 use crate::due_work::{begin, catch_up};
@@ -45,7 +45,7 @@ fn telling_turn<D: Disk>(
     ensures why { IfErr result (λ why. why ≡ Broken.Halted) }
     ensures front { OnErr result ((reading : ℕ)
         → IsFront state.new.world.entries (session_turn reading at state.old.world).entries) }
-    ensures disks { GoesAs D.seen D.is_image D.calls D.faults result state.old state.new }
+    ensures disks { GoesAs at D.seen D.is_image D.calls D.faults result state.old state.new }
 {
     state.tell(at, number)?;
     Ok(TurnEnd::Done)
@@ -68,7 +68,7 @@ fn calling_turn<D: Disk>(
     ensures err { OnErr result (IsUndone at reading state.old.world state.new.world) }
     ensures front { OnErr result
         (IsFront state.new.world.entries (session_turn reading at state.old.world).entries) }
-    ensures disks { GoesAs D.seen D.is_image D.calls D.faults result state.old state.new }
+    ensures disks { GoesAs at D.seen D.is_image D.calls D.faults result state.old state.new }
 {
     begin(state, at, reading)?;
     Ok(own_turn(state, at)?)
@@ -76,7 +76,7 @@ fn calling_turn<D: Disk>(
 
 /// The turn of the session of that number. One whose last call is not yet told is told it; else, with that reading, it calls its next
 /// statement, waits with it, or ends where it has called all. At want of memory, or where a disk fails, the turn is broken off.
-#[tactic(auto, using(crate::proofs::Turning::calling_broken, crate::proofs::Turning::calling_so, crate::proofs::Turning::none_end, crate::proofs::Turning::none_whole, crate::proofs::Turning::over_end, crate::proofs::Turning::over_whole, crate::proofs::Turning::owed_broken, crate::proofs::Turning::owed_so, crate::proofs::Turning::told_end))]
+#[tactic(auto, using(crate::proofs::Turning::calling_broken, crate::proofs::Turning::calling_so, crate::proofs::Turning::none_end, crate::proofs::Turning::none_whole, crate::proofs::Turning::over_end, crate::proofs::Turning::over_whole, crate::proofs::Turning::owed_broken, crate::proofs::Turning::owed_so, crate::proofs::Turning::told_all, crate::proofs::Turning::told_end))]
 fn session_turn<D: Disk>(
     state: &mut DurableState<D>,
     at: u32,
@@ -93,7 +93,9 @@ fn session_turn<D: Disk>(
         (IsBrokenOff at reading state.old.world state.new.world) }
     ensures front { OnErr result
         (IsFront state.new.world.entries (session_turn reading at state.old.world).entries) }
-    ensures disks { GoesAs D.seen D.is_image D.calls D.faults result state.old state.new }
+    ensures telling { is_owed (slice_get state.old.world.sessions at) ≡ true
+        → IfErr result (λ why. why ≡ Broken.Halted) }
+    ensures disks { GoesAs at D.seen D.is_image D.calls D.faults result state.old state.new }
 {
     let Some(session) = state.run().session(at) else {
         return Ok(TurnEnd::Ended);
@@ -117,8 +119,9 @@ fn timer_turn<D: Disk>(state: &mut DurableState<D>, reading: u64) -> Result<Turn
         end ≡ background_end reading 64 state.old.world) }
     ensures err { OnErr result
         (IsBrokenOff 64 reading state.old.world state.new.world) }
-    ensures front { OnErr result (IsFront state.new.world.entries (timer_turn reading state.old.world).entries) }
-    ensures disks { GoesAs D.seen D.is_image D.calls D.faults result state.old state.new }
+    ensures front { OnErr result
+        (IsFront state.new.world.entries (timer_turn reading state.old.world).entries) }
+    ensures disks { GoesAs 64 D.seen D.is_image D.calls D.faults result state.old state.new }
 {
     if !state.run().any_live() {
         return Ok(TurnEnd::Ended);
@@ -144,7 +147,7 @@ fn propagator_turn<D: Disk>(state: &mut DurableState<D>, reading: u64) -> Result
         (IsBrokenOff 65 reading state.old.world state.new.world) }
     ensures front { OnErr result
         (IsFront state.new.world.entries (propagator_turn reading state.old.world).entries) }
-    ensures disks { GoesAs D.seen D.is_image D.calls D.faults result state.old state.new }
+    ensures disks { GoesAs 65 D.seen D.is_image D.calls D.faults result state.old state.new }
 {
     if !state.run().any_live() {
         return Ok(TurnEnd::Ended);
@@ -173,7 +176,7 @@ pub fn reads_clock(state: &RunState, actor: u32) -> bool
 
 /// The turn of an actor: of the session of that number, of the timer or of the propagator, with that reading, if it takes one. At want of
 /// memory it is broken off.
-#[tactic(auto, using(crate::proofs::Running::is_propagator, crate::proofs::Running::propagator_ended, crate::proofs::Running::propagator_turned, crate::proofs::Running::session_ends, crate::proofs::Running::session_turned, crate::proofs::Running::timer_ended, crate::proofs::Running::timer_turned))]
+#[tactic(auto, using(crate::proofs::Running::is_propagator, crate::proofs::Running::propagator_ended, crate::proofs::Running::propagator_turned, crate::proofs::Running::session_ends, crate::proofs::Running::session_turned, crate::proofs::Running::timer_ended, crate::proofs::Running::timer_turned, crate::proofs::Turning::never_owed))]
 pub fn turn<D: Disk>(
     state: &mut DurableState<D>,
     actor: u32,
@@ -188,7 +191,9 @@ pub fn turn<D: Disk>(
         (IsBrokenOff actor reading state.old.world state.new.world) }
     ensures front { OnErr result
         (IsFront state.new.world.entries (turned reading actor state.old.world).entries) }
-    ensures disks { GoesAs D.seen D.is_image D.calls D.faults result state.old state.new }
+    ensures telling { is_owed (slice_get state.old.world.sessions actor) ≡ true
+        → IfErr result (λ why. why ≡ Broken.Halted) }
+    ensures disks { GoesAs actor D.seen D.is_image D.calls D.faults result state.old state.new }
 {
     match actor {
         0..=63 => session_turn(state, actor, reading),
@@ -207,7 +212,7 @@ fn drain_once<D: Disk>(state: &mut DurableState<D>) -> Result<bool, Broken>
     ensures room { OnOk result (length state.new.world.entries < 2 ^ 64) }
     ensures err { OnErr result (IsPartOfStep state.old.world state.new.world) }
     ensures front { OnErr result (IsFront state.new.world.entries (drained_once state.old.world).entries) }
-    ensures disks { GoesAs D.seen D.is_image D.calls D.faults result state.old state.new }
+    ensures disks { GoesAs 66 D.seen D.is_image D.calls D.faults result state.old state.new }
 {
     let before = state.run().entry_count();
     catch_up(state, CLOSING)?;
@@ -223,7 +228,7 @@ fn drain<D: Disk>(state: &mut DurableState<D>) -> Result<(), Broken>
     ensures err { OnErr result (IsPartDrained state.old.world state.new.world) }
     ensures front { OnErr result
         ((steps : ℕ) × IsFront state.new.world.entries (drained steps state.old.world).entries) }
-    ensures disks { GoesAs D.seen D.is_image D.calls D.faults result state.old state.new }
+    ensures disks { GoesAs 66 D.seen D.is_image D.calls D.faults result state.old state.new }
 {
     // Each step that does something adds an entry, and a list has room for so many alone.
     loop {
@@ -244,7 +249,7 @@ pub fn closing_turn<D: Disk>(state: &mut DurableState<D>, reading: u64) -> Resul
     ensures end { IfOk result (λ end. end ≡ Done) }
     ensures err { OnErr result (IsPartDrained (read_clock reading state.old.world) state.new.world) }
     ensures front { OnErr result (IsUnclosed reading state.old.world state.new.world) }
-    ensures disks { GoesAs D.seen D.is_image D.calls D.faults result state.old state.new }
+    ensures disks { GoesAs 66 D.seen D.is_image D.calls D.faults result state.old state.new }
 {
     state.read_clock(reading);
     drain(state)?;

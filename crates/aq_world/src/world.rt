@@ -3,15 +3,15 @@ ghost use Rattle.std.specs.Prelude.{◌≡◌, ◌<◌, ◌≤◌, ◌^◌, ◌�
 ghost use Rattle.std.specs.Option.{ForSome};
 ghost use Rattle.aq_clock.specs.Clock.{HasReading, TellsOn, step_reading};
 ghost use Rattle.queue_rows.specs.World.{uncounted, database_at, opened};
-ghost use Rattle.database_recovery.specs.Sound.{IsSound};
 ghost use Rattle.world_laws.specs.ValidWorld.{AreScripts};
 ghost use Rattle.queue_rows.specs.Turns.{any_live};
 ghost use Rattle.run_state.specs.Entries.{BeginsAs};
+ghost use Rattle.durable_state.specs.Brief.{AreBrief};
 ghost use Rattle.durable_state.specs.Going.{Goes};
 ghost use Rattle.durable_state.specs.Held.{HasFailed};
 ghost use Rattle.durable_state.specs.Survival.{Survives};
-ghost use Rattle.aq_world.specs.Clocked.{IsClocked, IsClosing, IsTurn};
-ghost use Rattle.aq_world.specs.Mounting.{HasMountCause, KeepsRecovered, RecoversTo};
+ghost use Rattle.aq_world.specs.Clocked.{Grows, IsClocked, IsClosing, IsTurn};
+ghost use Rattle.aq_world.specs.Mounting.{HasMountCause, HasSoundOpenings, KeepsRecovered, RecoversTo};
 ghost use Rattle.aq_world.specs.Turning.{IsActor, broken_end, is_owed};
 ghost use Rattle.aq_world.specs.declared.turn_end.TurnEnd.TheVariants.{Done, Halted, Memory};
 
@@ -100,7 +100,7 @@ impl<D: Disk, C: Clock> World<D, C> {
             w.held.world ≡ opened w.held.world.home.opening w.held.world.away.opening scripts) }
         ensures home { IfOk result (λ w. RecoversTo D.seen home w.held.world.home.opening) }
         ensures away { IfOk result (λ w. RecoversTo D.seen away w.held.world.away.opening) }
-        ensures sound { IfOk result (λ w. IsSound w.held.world.home.opening × IsSound w.held.world.away.opening) }
+        ensures sound { IfOk result (λ w. HasSoundOpenings w.held.world) }
         ensures entries { IfOk result (λ w. w.held.entries ≡ []) }
         ensures begun { IfOk result (λ w.
             Survives D.seen D.is_image D.calls D.faults (record { home = home; away = away }) w.held) }
@@ -124,6 +124,11 @@ impl<D: Disk, C: Clock> World<D, C> {
         requires actor { IsActor self.old.held.world actor }
         requires readings { self.old.held.world.readings < 2 ^ 63 }
         ensures turn { IsTurn C.given C.plan actor result self.old self.new }
+        ensures grows { Grows actor self.old.held self.new.held }
+
+        // A session that is to be told a reply is told it without memory.
+        ensures telling { is_owed (slice_get self.old.held.world.sessions actor) ≡ true
+            → (result ≡ Done) ⊎ (result ≡ Halted) }
 
         // The disks go on so that a crash leaves what it is to leave, and a failure is told where it stands in the way.
         ensures disks { Goes D.seen D.is_image D.calls D.faults self.old.held self.new.held }
@@ -141,6 +146,7 @@ impl<D: Disk, C: Clock> World<D, C> {
         requires readings { self.old.held.world.readings < 2 ^ 63 }
         ensures known { (result ≡ Done) ⊎ ((result ≡ Memory) ⊎ (result ≡ Halted)) }
         ensures turn { IsClosing C.given C.plan result self.old self.new }
+        ensures grows { Grows 66 self.old.held self.new.held }
 
         // The disks go on so that a crash leaves what it is to leave, and a failure is told where it stands in the way.
         ensures disks { Goes D.seen D.is_image D.calls D.faults self.old.held self.new.held }
@@ -202,6 +208,9 @@ impl<D: Disk, C: Clock> World<D, C> {
         ensures entries { result.history.entries ≡ self.held.entries }
         ensures uncounted { map uncounted result.history.entries ≡ self.held.world.entries }
         ensures begins { BeginsAs self.held.world result.history }
+
+        // Each flush made few calls on the disks.
+        ensures brief { AreBrief result.history.entries }
         ensures running { IsClocked C.given self.clock self.held.world }
         ensures home { result.home ≡ self.held.home.disk }
         ensures away { result.away ≡ self.held.away.disk }
@@ -236,7 +245,7 @@ impl<D: Disk> World<D, StepClock> {
             w.held.world ≡ opened w.held.world.home.opening w.held.world.away.opening scripts) }
         ensures home { IfOk result (λ w. RecoversTo D.seen home w.held.world.home.opening) }
         ensures away { IfOk result (λ w. RecoversTo D.seen away w.held.world.away.opening) }
-        ensures sound { IfOk result (λ w. IsSound w.held.world.home.opening × IsSound w.held.world.away.opening) }
+        ensures sound { IfOk result (λ w. HasSoundOpenings w.held.world) }
         ensures entries { IfOk result (λ w. w.held.entries ≡ []) }
         ensures begun { IfOk result (λ w.
             Survives D.seen D.is_image D.calls D.faults (record { home = home; away = away }) w.held) }

@@ -3,6 +3,7 @@ use Rattle.std.specs.Prelude.{slice_get}
 use Rattle.run_state.specs.Sessions.{OfSession}
 use Rattle.aq_world.specs.Stepping.{IsNext}
 use Rattle.aq_world.proofs.OwnTurns.{of_each, of_both, call_turn, call_end, park_turn, park_end, end_turn, end_end}
+use Rattle.aq_world.proofs.Goings.{quiet_by, quiet_same}
 use Rattle.aq_world.proofs.own_turn.own_turn.Goals as goal
 
 pub call-requires : goal.call-requires
@@ -52,3 +53,24 @@ returns-in_ok-end-in-None-clause-end g c =
     let w = c.args.state.now.world in
     let i = c.args.at in
     of_each (slice_get w.sessions i) (subst (λ n. OfSession i w (λ s. IsNext w i s n)) c.in-None.is (rw c.run.ensures at c.in_ok-effect.ensures)) (λ s none. end_end w i s none)
+
+pub returns-in_err-effect-clause-disks : goal.returns-in_err-effect-clause-disks
+returns-in_err-effect-clause-disks g c = quiet_same _
+
+pub returns-in_err-call-in-Some-Call-clause-disks : goal.returns-in_err-call-in-Some-Call-clause-disks
+returns-in_err-call-in-Some-Call-clause-disks g c = quiet_by _ _ c.call.ensures.disks c.call.ensures.adds c.call.ensures.fine
+
+pub returns-in_ok-call-in-Some-Call-clause-disks : goal.returns-in_ok-call-in-Some-Call-clause-disks
+returns-in_ok-call-in-Some-Call-clause-disks g c = quiet_by _ _ c.call.ensures.disks c.call.ensures.adds c.call.ensures.fine
+
+pub returns-in_err-park-in-Some-Wait-clause-disks : goal.returns-in_err-park-in-Some-Wait-clause-disks
+returns-in_err-park-in-Some-Wait-clause-disks g c = quiet_by _ _ c.park.ensures.disks c.park.ensures.adds c.park.ensures.fine
+
+pub returns-in_ok-park-in-Some-Wait-clause-disks : goal.returns-in_ok-park-in-Some-Wait-clause-disks
+returns-in_ok-park-in-Some-Wait-clause-disks g c = quiet_by _ _ c.park.ensures.disks c.park.ensures.adds c.park.ensures.fine
+
+pub returns-in_err-end-in-None-clause-disks : goal.returns-in_err-end-in-None-clause-disks
+returns-in_err-end-in-None-clause-disks g c = quiet_by _ _ c.end.ensures.disks c.end.ensures.adds c.end.ensures.fine
+
+pub returns-in_ok-end-in-None-clause-disks : goal.returns-in_ok-end-in-None-clause-disks
+returns-in_ok-end-in-None-clause-disks g c = quiet_by _ _ c.end.ensures.disks c.end.ensures.adds c.end.ensures.fine

@@ -32,3 +32,6 @@ returns-in_err-send-clause-disks g c = as_memory c.from_residual-in_err-send.res
 
 pub returns-clause-disks : goal.returns-clause-disks
 returns-clause-disks g c = as_ok _ _ _ (quiet_on _ _ _ (quiet_ok c.make_ready.result _ _ _ c.in_ok-make_ready.was c.make_ready.ensures.disks) c.send.ensures.disks)
+
+pub returns-in_default-clause-disks : goal.returns-in_default-clause-disks
+returns-in_default-clause-disks g c = as_ok _ _ _ (quiet_same _)

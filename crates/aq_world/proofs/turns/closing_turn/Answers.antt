@@ -1,15 +1,20 @@
-use Rattle.aq_world.proofs.Turning.{closed_so}
+use Rattle.durable_state.proofs.Growing.{adds_none}
+use Rattle.aq_world.proofs.Turning.{at_err, closed_so, unclosed_at_flush}
 use Rattle.aq_world.proofs.Goings.{as_failed, as_on, as_ok, as_passed, quiet_by, quiet_ok, quiet_on}
 use Rattle.aq_world.proofs.turns.closing_turn.Goals as goal
 
 pub returns-clause-ok : goal.returns-clause-ok
 returns-clause-ok g c = closed_so c.args.reading c.args.state.now.world c.read_clock.new.self.world c.drain.new.state.world c.flush.new.self.world c.read_clock.ensures.world c.in_ok-drain.ensures.ok c.in_ok-flush.ensures.ok
 
+pub returns-in_err-flush-clause-front : goal.returns-in_err-flush-clause-front
+returns-in_err-flush-clause-front g c =
+    at_err c.from_residual-in_err-flush.result (unclosed_at_flush c.args.reading c.args.state.now.world c.read_clock.new.self.world c.drain.new.state.world c.flush.new.self.world c.read_clock.ensures.world c.in_ok-drain.ensures.ok c.in_err-flush.ensures.err)
+
 pub returns-in_err-drain-clause-disks : goal.returns-in_err-drain-clause-disks
-returns-in_err-drain-clause-disks g c = as_on _ _ _ _ (quiet_by _ _ c.read_clock.ensures.disks c.read_clock.ensures.fine) (as_passed c.drain.result _ c.from_residual.result _ _ c.in_err-drain.was c.from_residual.ensures.1 c.drain.ensures.disks)
+returns-in_err-drain-clause-disks g c = as_on _ _ _ _ (quiet_by _ _ c.read_clock.ensures.disks (adds_none _ _ c.read_clock.ensures.entries) c.read_clock.ensures.fine) (as_passed c.drain.result _ c.from_residual.result _ _ c.in_err-drain.was c.from_residual.ensures.1 c.drain.ensures.disks)
 
 pub returns-in_err-flush-clause-disks : goal.returns-in_err-flush-clause-disks
-returns-in_err-flush-clause-disks g c = as_on _ _ _ _ (quiet_on _ _ _ (quiet_by _ _ c.read_clock.ensures.disks c.read_clock.ensures.fine) (quiet_ok c.drain.result _ _ _ c.in_ok-drain.was c.drain.ensures.disks)) (as_failed c.from_residual-in_err-flush.result _ _ c.from_residual-in_err-flush.ensures.1 c.flush.ensures.disks c.in_err-flush.ensures.halted)
+returns-in_err-flush-clause-disks g c = as_on _ _ _ _ (quiet_on _ _ _ (quiet_by _ _ c.read_clock.ensures.disks (adds_none _ _ c.read_clock.ensures.entries) c.read_clock.ensures.fine) (quiet_ok c.drain.result _ _ _ c.in_ok-drain.was c.drain.ensures.disks)) (as_failed c.from_residual-in_err-flush.result _ _ c.from_residual-in_err-flush.ensures.1 c.flush.ensures.disks c.flush.ensures.adds c.in_err-flush.ensures.halted)
 
 pub returns-clause-disks : goal.returns-clause-disks
-returns-clause-disks g c = as_ok _ _ _ (quiet_on _ _ _ (quiet_on _ _ _ (quiet_by _ _ c.read_clock.ensures.disks c.read_clock.ensures.fine) (quiet_ok c.drain.result _ _ _ c.in_ok-drain.was c.drain.ensures.disks)) (quiet_by _ _ c.flush.ensures.disks (λ failed. absurd (c.in_ok-flush.ensures.unfailed failed))))
+returns-clause-disks g c = as_ok _ _ _ (quiet_on _ _ _ (quiet_on _ _ _ (quiet_by _ _ c.read_clock.ensures.disks (adds_none _ _ c.read_clock.ensures.entries) c.read_clock.ensures.fine) (quiet_ok c.drain.result _ _ _ c.in_ok-drain.was c.drain.ensures.disks)) (quiet_by _ _ c.flush.ensures.disks c.flush.ensures.adds (λ failed. absurd (c.in_ok-flush.ensures.unfailed failed))))

@@ -12,7 +12,7 @@ pub returns-clause-ok : goal.returns-clause-ok
 returns-clause-ok g c = told_whole c.args.state.now.world c.tell.new.self.world c.args.at c.args.number c.requires c.in_ok-tell.ensures.ok
 
 pub returns-in_err-tell-clause-disks : goal.returns-in_err-tell-clause-disks
-returns-in_err-tell-clause-disks g c = as_failed c.from_residual.result _ _ c.from_residual.ensures.1 c.tell.ensures.disks c.in_err-tell.ensures.halted
+returns-in_err-tell-clause-disks g c = as_failed c.from_residual.result _ _ c.from_residual.ensures.1 c.tell.ensures.disks c.tell.ensures.adds c.in_err-tell.ensures.halted
 
 pub returns-clause-disks : goal.returns-clause-disks
-returns-clause-disks g c = as_ok _ _ _ (quiet_by _ _ c.tell.ensures.disks c.in_ok-tell.ensures.fine)
+returns-clause-disks g c = as_ok _ _ _ (quiet_by _ _ c.tell.ensures.disks c.tell.ensures.adds c.in_ok-tell.ensures.fine)

@@ -1,8 +1,8 @@
 use Rattle.std.proofs.Common.{◌<◌, ◌^◌, sym, subst}
 use Rattle.durable_state.specs.Going.{Goes}
 use Rattle.durable_state.specs.Held.{HasFailed}
-use Rattle.aq_world.specs.Clocked.{IsClosing}
-use Rattle.aq_world.proofs.Running.{drainable, closing_leaves, part_of_run, closed_known, closed_world, closed_broken, turn_halted, turn_fine, if_closed, takes_reading, told_count}
+use Rattle.aq_world.specs.Clocked.{Grows, IsClosing}
+use Rattle.aq_world.proofs.Running.{drainable, closing_leaves, closing_of_run, part_of_run, closed_known, closed_world, closed_broken, turn_halted, turn_fine, if_closed, takes_reading, told_count}
 use Rattle.aq_world.proofs.world.World.closing.Goals as goal
 
 pub closing_turn-requires-clause-drainable : goal.closing_turn-requires-clause-drainable
@@ -40,3 +40,8 @@ returns-clause-halted g c = λ halted.
 pub returns-clause-fine : goal.returns-clause-fine
 returns-clause-fine g c = λ other failed.
     subst (λ v. HasFailed v.held) c.self.view_is (turn_fine c.closing_turn.result c.end_of.result c.self.inside.state c.closing_turn.new.state c.end_of.ensures c.closing_turn.ensures.disks other failed)
+
+pub returns-clause-grows : goal.returns-clause-grows
+returns-clause-grows g c =
+    subst (λ v. Grows 66 v.held c.closing_turn.new.state) c.self.view_is
+    (record { adds = c.closing_turn.ensures.disks.adds; run = closing_of_run c.closing_turn.result c.now-reading.result c.self.inside.state.world c.closing_turn.new.state.world c.closing_turn.ensures.ok c.closing_turn.ensures.err })

@@ -1,9 +1,11 @@
-use Rattle.std.proofs.Common.{◌≡◌, ◌<◌, ◌^◌, sym, ap, subst, ◌∙◌}
+use Rattle.std.proofs.Common.{◌≡◌, ◌<◌, ◌^◌, true, sym, ap, subst, ◌∙◌}
+use Rattle.std.specs.Prelude.{slice_get}
 use Rattle.durable_state.specs.Going.{Goes}
 use Rattle.durable_state.specs.Held.{HasFailed}
-use Rattle.aq_world.specs.Clocked.{IsTurn}
-use Rattle.aq_world.specs.Turning.{IsActor, reads_clock, turn_end}
-use Rattle.aq_world.proofs.Running.{turn_leaves, turned_world, turned_end, turned_broken, turn_halted, turn_fine, if_turned, reads_if, takes_reading, told_count}
+use Rattle.aq_world.specs.Clocked.{Grows, IsTurn}
+use Rattle.aq_world.specs.Turning.{IsActor, is_owed, reads_clock, turn_end}
+use Rattle.aq_world.proofs.OfRun.{turn_of_run}
+use Rattle.aq_world.proofs.Running.{turn_leaves, turn_told, turned_world, turned_end, turned_broken, turn_halted, turn_fine, if_turned, reads_if, takes_reading, told_count}
 use Rattle.aq_world.proofs.world.World.turn.Goals as goal
 
 pub turn-requires-clause-sound : goal.turn-requires-clause-sound
@@ -46,3 +48,13 @@ returns-clause-halted g c = λ halted.
 
 pub returns-clause-fine : goal.returns-clause-fine
 returns-clause-fine g c = λ other failed. subst (λ v. HasFailed v.held) c.self.view_is (turn_fine c.turn.result c.end_of.result c.self.inside.state c.turn.new.state c.end_of.ensures c.turn.ensures.disks other failed)
+
+pub returns-clause-grows : goal.returns-clause-grows
+returns-clause-grows g c =
+    subst (λ v. Grows c.args.actor v.held c.turn.new.state) c.self.view_is
+    (record { adds = c.turn.ensures.disks.adds; run = turn_of_run c.turn.result c.read_if-reading.result c.args.actor c.self.inside.state.world c.turn.new.state.world c.turn.ensures.ok c.turn.ensures.err })
+
+pub returns-clause-telling : goal.returns-clause-telling
+returns-clause-telling g c owed =
+    let here : is_owed (slice_get c.self.inside.state.world.sessions c.args.actor) ≡ true = subst (λ v. is_owed (slice_get v.held.world.sessions c.args.actor) ≡ true) (sym c.self.view_is) owed in
+    turn_told c.turn.result c.end_of.result c.read_if-reading.result c.args.actor c.self.inside.state.world c.end_of.ensures c.turn.ensures.end (c.turn.ensures.telling here) c.self.invariant.running.sound.few here
