@@ -25,7 +25,7 @@ use Rattle.world_laws.specs.ValidWorld.{AreScripts}
 use Rattle.world_laws.proofs.Worlds.{asked}
 use Rattle.queue_rows.specs.World.{World, database_at}
 use Rattle.run_state.specs.CallEffects.{IsCallable, IsLater, call_meant, done_by, mark_of, pending_after}
-use Rattle.run_state.specs.Sessions.{session_of, unmarked, IsFreeIn}
+use Rattle.session_registry.specs.Sessions.{session_of, unmarked, IsFreeIn}
 use Rattle.run_state.specs.declared.call_effect.CallEffect.{CallEffect}
 use Rattle.run_state.specs.declared.call_effect.Holdings.{Holdings}
 use Rattle.run_state.specs.declared.call_effect.Holdings.TheVariants.{Kept, Cleared}

@@ -41,9 +41,9 @@ use Rattle.dequeue_ops.specs.Asked.{IsDequeue}
 use Rattle.enqueue_ops.specs.Enqueued.{MeansToEnqueue}
 use Rattle.listen_ops.specs.Listened.{IsListen}
 use Rattle.aq_world.specs.Calling.{IsCallerIn, MayCall}
-use Rattle.run_state.specs.Sessions.{positions_by}
+use Rattle.session_registry.specs.Sessions.{positions_by}
 use Rattle.run_state.specs.CallEffects.{call_meant}
-use Rattle.run_state.specs.declared.call_effect.NewPositions.{NewPositions}
+use Rattle.session_registry.specs.declared.new_positions.NewPositions.{NewPositions}
 use Rattle.run_state.specs.declared.call_effect.Holdings.TheVariants.{Kept}
 use Rattle.aq_world.specs.declared.respond.Caller.{Caller}
 

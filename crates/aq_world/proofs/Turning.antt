@@ -20,7 +20,7 @@ use Rattle.run_turns.proofs.Oneness.{sessions-begun}
 use Rattle.run_turns.proofs.Parts.{session_none, session_tells, session_over, session_calls, session_grows_begun, session_grows_read, timer_goes, timer_rests, propagator_goes, propagator_rests, timer_grows_read, propagator_grows_read}
 use Rattle.run_turns.proofs.Resting.{drained_once-still}
 use Rattle.run_state.specs.Entries.{IsUntold}
-use Rattle.run_state.specs.Sessions.{OfSession, session_of, untold_as, unmarked}
+use Rattle.session_registry.specs.Sessions.{OfSession, session_of, untold_as, unmarked}
 use Rattle.durable_state.specs.declared.broken.Broken.{Broken}
 use Rattle.durable_state.specs.declared.broken.Broken.TheVariants as reasons
 use Rattle.aq_world.specs.Sound.{IsSound}

@@ -2,7 +2,7 @@
 ghost use Rattle.std.specs.Prelude.{◌≡◌, ◌⊎◌, IfOk, OnOk, OnErr};
 ghost use Rattle.queue_rows.specs.Statements.{next_statement};
 ghost use Rattle.queue_rows.specs.Turns.{own_turn};
-ghost use Rattle.run_state.specs.Sessions.{OfSession};
+ghost use Rattle.session_registry.specs.Sessions.{OfSession};
 ghost use Rattle.aq_world.specs.Going.{GoesQuietly};
 ghost use Rattle.aq_world.specs.Sound.{IsSound};
 ghost use Rattle.aq_world.specs.Stepping.{IsNext};

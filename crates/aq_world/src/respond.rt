@@ -14,7 +14,8 @@ use listen_ops::listen;
 use payload_records::{List, Name};
 use queue_rows::{Admin, Dequeue, Enqueue, Listen, Reply, SlotRef, Statement};
 use row_locks::RowLocks;
-use run_state::{CallEffect, Holdings, NewPositions, RunDatabase, moved};
+use run_state::{CallEffect, Holdings, RunDatabase};
+use session_registry::{NewPositions, moved};
 use sessions::{Effect, SessionState, Verdict, commit_changes, rollback_changes};
 use std::alloc::{AllocError, Global};
 

@@ -18,11 +18,11 @@ use Rattle.queue_rows.specs.Turns.{ids_taken, all_durable, ended, flushed, is_du
 use Rattle.queue_rows.specs.Sending.{offers, arrives, confirms, home_of, away_of, ids_copied, sent, taking_ids, transit_after}
 use Rattle.run_state.specs.CallEffects.{called_with}
 use Rattle.run_state.specs.Promises.{promised}
-use Rattle.run_state.specs.Sessions.{OfSession, gone_in, session_of, unmarked}
+use Rattle.session_registry.specs.Sessions.{OfSession, gone_in, session_of, unmarked}
 use Rattle.run_state.proofs.Calls.{session_there}
-use Rattle.run_state.proofs.Leaving.{standing_is}
+use Rattle.session_registry.proofs.Leaving.{standing_is}
 use Rattle.run_state.proofs.Promises.{length-left, telling_takes}
-use Rattle.run_state.proofs.Results.{of_some, ok_from}
+use Rattle.session_registry.proofs.Results.{of_some, ok_from}
 use Rattle.sessions.specs.declared.state.SessionState.{SessionState}
 use Rattle.run_state.specs.declared.call_effect.CallEffect.{CallEffect}
 use Rattle.durable_state.proofs.Lists.{if_true, if_false}

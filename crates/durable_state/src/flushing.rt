@@ -1,7 +1,7 @@
 // The steps of a run that make its commits durable. They take no memory.
 ghost use Rattle.std.specs.Prelude.{◌≡◌, IsSome, OnOk, OnErr};
 ghost use Rattle.queue_rows.specs.Turns.{flushed, told};
-ghost use Rattle.run_state.specs.Sessions.{OfSession};
+ghost use Rattle.session_registry.specs.Sessions.{OfSession};
 ghost use Rattle.durable_state.specs.Going.{AddsEntries, Goes};
 ghost use Rattle.durable_state.specs.Held.{HasFailed};
 

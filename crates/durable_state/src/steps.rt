@@ -6,7 +6,7 @@ ghost use Rattle.queue_rows.specs.World.{other_db, database_at, read_clock, step
 ghost use Rattle.queue_rows.specs.Sending.{offers, arrives, confirms, sent, home_of, away_of};
 ghost use Rattle.queue_rows.specs.Turns.{parked, ended};
 ghost use Rattle.run_state.specs.CallEffects.{IsCallable, called_with};
-ghost use Rattle.run_state.specs.Sessions.{IsAbsent, OfSession};
+ghost use Rattle.session_registry.specs.Sessions.{IsAbsent, OfSession};
 ghost use Rattle.durable_state.specs.Going.{AddsEntries, Goes};
 ghost use Rattle.durable_state.specs.Held.{HasFailed};
 

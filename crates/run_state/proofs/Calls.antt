@@ -15,14 +15,14 @@ use Rattle.queue_rows.specs.declared.history.Step.TheVariants.{Call, Park, Told,
 use Rattle.sessions.specs.declared.state.SessionState.{SessionState}
 use Rattle.queue_rows.specs.Sending.{home_of, away_of, ids_copied, taking_ids}
 use Rattle.run_state.specs.CallEffects.{IsCallable, IsLaterThan, called_with, closed_call, done_by, entered_as, entered_call, holding}
-use Rattle.run_state.specs.Sessions.{session_of, unmarked, changed_at, after_call, after_park, after_reply, after_end, gone_in, left_by, IsAbsent, OfSession}
+use Rattle.session_registry.specs.Sessions.{session_of, unmarked, changed_at, after_call, after_park, after_reply, after_end, gone_in, left_by, IsAbsent, OfSession}
 use Rattle.run_state.specs.declared.call_effect.CallEffect.{CallEffect}
 use Rattle.run_state.specs.declared.call_effect.Holdings.{Holdings}
-use Rattle.run_state.specs.declared.call_effect.NewPositions.{NewPositions}
-use Rattle.run_state.proofs.Results.{of_some}
-use Rattle.run_state.proofs.Changing.{changed_there, got_changed}
-use Rattle.run_state.proofs.Leaving.{standing_is}
-use Rattle.run_state.proofs.ShownSessions.{changed_twice}
+use Rattle.session_registry.specs.declared.new_positions.NewPositions.{NewPositions}
+use Rattle.session_registry.proofs.Results.{of_some}
+use Rattle.session_registry.proofs.Changing.{changed_there, got_changed}
+use Rattle.session_registry.proofs.Leaving.{standing_is}
+use Rattle.session_registry.proofs.ShownSessions.{changed_twice}
 
 -- ---- a session is set
 

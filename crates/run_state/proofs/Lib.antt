@@ -1,10 +1,4 @@
 pub mod Calls
-pub mod Changing
-pub mod Leaving
-pub mod Marks
 pub mod Places
 pub mod Promises
 pub mod Putting
-pub mod Results
-pub mod ShownSessions
-pub mod States

@@ -14,9 +14,9 @@ use Rattle.queue_rows.specs.declared.tables.Tables.{Tables}
 use Rattle.run_state.specs.Commits.{is_durable_database}
 use Rattle.run_state.specs.Reserved.{Reserved, HasPlaces}
 use Rattle.run_state.specs.Promises.{flushes_owed, reply_owed, replies_owed, promised_by, promised}
-use Rattle.run_state.specs.Sessions.{changed_in, changed_at, after_reply, left_by}
+use Rattle.session_registry.specs.Sessions.{changed_in, changed_at, after_reply, left_by}
 use Rattle.run_state.proofs.Calls.{sessions-stepped, sessions-flushed}
-use Rattle.run_state.proofs.Changing.{changed_there}
+use Rattle.session_registry.proofs.Changing.{changed_there}
 use Rattle.run_state.proofs.Putting.{committed_none}
 
 -- ---- at most one for each session, and one

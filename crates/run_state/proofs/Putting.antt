@@ -11,7 +11,7 @@ use Rattle.queue_rows.specs.declared.history.Step.{Step}
 use Rattle.queue_rows.specs.declared.tables.Tables.{Tables}
 use Rattle.run_state.specs.CallEffects.{entered_call, holding}
 use Rattle.run_state.specs.Entries.{AreCounted, HasNoCalls}
-use Rattle.run_state.specs.Sessions.{changed_at}
+use Rattle.session_registry.specs.Sessions.{changed_at}
 use Rattle.run_state.specs.declared.call_effect.Holdings.{Holdings}
 
 -- the world of a run's parts

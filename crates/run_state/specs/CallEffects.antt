@@ -15,10 +15,10 @@ use Rattle.sessions.specs.declared.state.Effect.{Effect}
 use Rattle.sessions.specs.declared.state.Verdict.TheVariants.{Answer}
 use Rattle.queue_rows.specs.Sending.{home_of, away_of}
 use Rattle.queue_rows.specs.World.{World, database_at, stepped}
-use Rattle.run_state.specs.Sessions.{positions_by, IsFreeIn, changed_at, after_call, left_by}
+use Rattle.session_registry.specs.Sessions.{positions_by, IsFreeIn, changed_at, after_call, left_by}
 use Rattle.run_state.specs.declared.call_effect.CallEffect.{CallEffect}
 use Rattle.run_state.specs.declared.call_effect.Holdings.{Holdings}
-use Rattle.run_state.specs.declared.call_effect.NewPositions.{NewPositions}
+use Rattle.session_registry.specs.declared.new_positions.NewPositions.{NewPositions}
 use Rattle.run_state.specs.declared.call_effect.Holdings.TheVariants.{Kept, Cleared}
 
 abbrev pub pend_of : Holdings → Option Pending

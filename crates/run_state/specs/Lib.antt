@@ -1,8 +1,6 @@
 pub mod CallEffects
 pub mod Commits
 pub mod Entries
-pub mod Locks
 pub mod Promises
 pub mod Reserved
 pub mod Sendings
-pub mod Sessions

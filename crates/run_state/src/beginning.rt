@@ -5,11 +5,11 @@ ghost use Rattle.queue_rows.specs.World.{fresh, opened};
 use crate::copies::copied_tables;
 use crate::reserved_list::ReservedList;
 use crate::run_database::RunDatabase;
-use crate::session_registry::SessionRegistry;
 use crate::state::{RunState, room_for_entries};
 use message_store::PreparedStore;
 use payload_records::List;
 use queue_rows::{Entry, SessionScript, Tables};
+use session_registry::SessionRegistry;
 use std::alloc::{AllocError, Global};
 
 /// All that a run takes memory for as it begins: copies of its tables, its sessions, and room for its entries.

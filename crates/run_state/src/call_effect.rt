@@ -1,6 +1,7 @@
 // What a session's call does, as values.
 use payload_records::List;
-use queue_rows::{Change, Pending, Position, Reply};
+use queue_rows::{Change, Pending, Reply};
+use session_registry::NewPositions;
 use slot_marks::Mark;
 
 /// What a call does: nothing is changed before this is applied.
@@ -14,22 +15,6 @@ pub struct CallEffect {
     pub holdings: Holdings,
     /// The positions that the session then has.
     pub positions: NewPositions,
-}
-
-/// The positions that a session has after a call.
-#[derive(Drop)]
-pub enum NewPositions {
-    /// Those that it had.
-    Same,
-    /// Those that it had, but for this one at that place.
-    Replaced {
-        /// The place among them, counted from 0.
-        at: usize,
-        /// The position there.
-        position: Position,
-    },
-    /// These.
-    Others(List<Position>),
 }
 
 /// What becomes of what a session has done and not committed, and of its marks.

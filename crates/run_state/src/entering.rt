@@ -4,14 +4,14 @@ ghost use Rattle.queue_rows.specs.Legal.{last_entry};
 ghost use Rattle.queue_rows.specs.World.{committed};
 ghost use Rattle.run_state.specs.CallEffects.{IsLaterThan, mark_of, pend_of, with_pended, holding};
 ghost use Rattle.run_state.specs.Reserved.{HasPlaces};
-ghost use Rattle.run_state.specs.Sessions.{changed_at, with_pending, IsFreeIn};
+ghost use Rattle.session_registry.specs.Sessions.{changed_at, with_pending, IsFreeIn};
 
 use crate::call_effect::Holdings;
 use crate::holdings::{make_room, release, take};
 use crate::reserved_list::ReservedList;
 use crate::run_database::{RunDatabase, commit_both};
-use crate::session_registry::SessionRegistry;
 use queue_rows::{Entry, Pending};
+use session_registry::SessionRegistry;
 use std::alloc::AllocError;
 
 // The history has an entry or more for each statement, so entries stay small beside what they commit: bytes.

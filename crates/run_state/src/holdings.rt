@@ -1,10 +1,10 @@
 // What becomes of what a session holds when it calls.
 ghost use Rattle.std.specs.Prelude.{◌≡◌, OnOk, IfSome};
 ghost use Rattle.run_state.specs.CallEffects.{mark_of, with_marked, with_unmarked};
-ghost use Rattle.run_state.specs.Sessions.{changed_at, HasRoom, IsFreeIn};
+ghost use Rattle.session_registry.specs.Sessions.{changed_at, HasRoom, IsFreeIn};
 
 use crate::call_effect::Holdings;
-use crate::session_registry::SessionRegistry;
+use session_registry::SessionRegistry;
 use slot_marks::Mark;
 use std::alloc::AllocError;
 

@@ -9,7 +9,7 @@ ghost use Rattle.queue_rows.specs.World.{other_db, database_at, entry_of, steppe
 ghost use Rattle.queue_rows.specs.Sending.{offers, arrives, confirms, sent, taking_ids, ids_copied, pair_number, home_of, away_of, transit_after};
 ghost use Rattle.run_state.specs.CallEffects.{IsCallable, IsFreeOf, IsLater, called_with, entered_as};
 ghost use Rattle.run_state.specs.Sendings.{transit_of};
-ghost use Rattle.run_state.specs.Sessions.{IsAbsent, OfSession, gone_by, gone_in};
+ghost use Rattle.session_registry.specs.Sessions.{IsAbsent, OfSession, gone_by, gone_in};
 
 use crate::call_effect::CallEffect;
 use crate::entering::{put, put_call};

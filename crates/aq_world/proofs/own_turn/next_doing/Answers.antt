@@ -2,7 +2,7 @@ use Rattle.std.proofs.Common.{◌≡◌, Some, sym, ap, ◌∙◌, option_map}
 use Rattle.std.specs.Prelude.{slice_get, option_copied}
 use Rattle.queue_rows.specs.Session.{Session}
 use Rattle.queue_rows.specs.Statements.{statement_of, next_statement}
-use Rattle.run_state.specs.Sessions.{session_of, unmarked}
+use Rattle.session_registry.specs.Sessions.{session_of, unmarked}
 use Rattle.aq_world.specs.Stepping.{IsNext}
 use Rattle.aq_world.proofs.Calls.{session_there, caller_in, may_call, next_means}
 use Rattle.aq_world.proofs.OwnTurns.{some_of}

@@ -1,6 +1,6 @@
 use Rattle.std.proofs.Common.{Some, ap, subst, ◌∙◌}
 use Rattle.std.specs.Prelude.{slice_get}
-use Rattle.run_state.specs.Sessions.{OfSession}
+use Rattle.session_registry.specs.Sessions.{OfSession}
 use Rattle.aq_world.specs.Stepping.{IsNext}
 use Rattle.aq_world.proofs.OwnTurns.{of_each, of_both, call_turn, call_end, park_turn, park_end, end_turn, end_end}
 use Rattle.aq_world.proofs.Goings.{quiet_by, quiet_same}

@@ -1,6 +1,6 @@
 use Rattle.std.proofs.Common.{refl, sym, ap}
 use Rattle.sessions.specs.Effects.{positions_after}
-use Rattle.run_state.specs.declared.call_effect.NewPositions.TheVariants.{Same}
+use Rattle.session_registry.specs.declared.new_positions.NewPositions.TheVariants.{Same}
 use Rattle.aq_world.proofs.Doings.{effect_answers, effect_parks, own_mark}
 use Rattle.aq_world.proofs.respond.staying.Goals as goal
 

@@ -1,7 +1,7 @@
 use Rattle.std.proofs.Common.{◌≡◌, None, rules, ap}
 use Rattle.sessions.specs.Effects.{pending_with}
-use Rattle.run_state.proofs.Results.{on_ok}
-use Rattle.run_state.proofs.Changing.{kept_at}
+use Rattle.session_registry.proofs.Results.{on_ok}
+use Rattle.session_registry.proofs.Changing.{kept_at}
 use Rattle.run_state.specs.CallEffects.{with_pended}
 use Rattle.run_state.proofs.entering.keep.Goals as goal
 

@@ -1,9 +1,9 @@
 use Rattle.std.proofs.Common.{◌≡◌, refl, ap, sym, subst, ◌∙◌}
 use Rattle.std.specs.Prelude.{IfSome}
 use Rattle.run_state.specs.CallEffects.{mark_of, holding, with_pended, with_marked, with_unmarked}
-use Rattle.run_state.specs.Sessions.{changed_at, IsFreeIn}
-use Rattle.run_state.proofs.ShownSessions.{changed_twice}
-use Rattle.run_state.proofs.Changing.{free_kept, room_then}
+use Rattle.session_registry.specs.Sessions.{changed_at, IsFreeIn}
+use Rattle.session_registry.proofs.ShownSessions.{changed_twice}
+use Rattle.session_registry.proofs.Changing.{free_kept, room_then}
 use Rattle.run_state.proofs.entering.put_call.Goals as goal
 
 pub take-requires-clause-free : goal.take-requires-clause-free

@@ -1,6 +1,6 @@
 use Rattle.std.proofs.Common.{◌≡◌, None, rules, ap}
 use Rattle.sessions.specs.Effects.{marks_without}
-use Rattle.run_state.proofs.Changing.{kept_at}
+use Rattle.session_registry.proofs.Changing.{kept_at}
 use Rattle.run_state.specs.CallEffects.{with_unmarked}
 use Rattle.run_state.proofs.holdings.release.Goals as goal
 

@@ -1,6 +1,6 @@
 use Rattle.std.proofs.Common.{◌≡◌, None, rules, ap}
 use Rattle.sessions.specs.Effects.{marks_with}
-use Rattle.run_state.proofs.Changing.{kept_at}
+use Rattle.session_registry.proofs.Changing.{kept_at}
 use Rattle.run_state.specs.CallEffects.{with_marked}
 use Rattle.run_state.proofs.holdings.take.Goals as goal
 

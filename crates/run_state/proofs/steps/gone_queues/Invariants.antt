@@ -1,5 +1,5 @@
 use Rattle.std.proofs.Common.{◌≡◌, ◌++◌}
-use Rattle.run_state.specs.Sessions.{gone_in}
+use Rattle.session_registry.specs.Sessions.{gone_in}
 use Rattle.run_state.proofs.steps.gone_queues.Given as goal
 
 abbrev pub invariant-loop-change : goal.invariant-loop-change

@@ -1,6 +1,6 @@
 use Rattle.std.proofs.Common.{refl, ◌≡◌, length, Some, sym, ap, ◌∙◌, subst}
 use Rattle.std.specs.Prelude.{option_copied, option_map, slice_get}
-use Rattle.run_state.specs.Sessions.{session_of, unmarked}
+use Rattle.session_registry.specs.Sessions.{session_of, unmarked}
 use Rattle.queue_rows.specs.World.{at_home, at_away}
 use Rattle.run_state.specs.Promises.{promised}
 use Rattle.run_state.specs.Reserved.{HasPlaces}

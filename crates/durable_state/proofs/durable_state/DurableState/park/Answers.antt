@@ -1,6 +1,6 @@
 use Rattle.std.proofs.Common.{refl, ◌≡◌, [], Some, false, sym, ap, ◌∙◌, subst, rules}
 use Rattle.std.specs.Prelude.{option_copied, option_map, is_some, slice_get}
-use Rattle.run_state.specs.Sessions.{session_of, unmarked}
+use Rattle.session_registry.specs.Sessions.{session_of, unmarked}
 use Rattle.run_state.proofs.Calls.{not_absent}
 use Rattle.durable_state.specs.Going.{AddsEntries, Goes}
 use Rattle.durable_state.specs.Held.{Held}

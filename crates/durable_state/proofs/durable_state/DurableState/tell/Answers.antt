@@ -1,7 +1,7 @@
 use Rattle.std.proofs.Common.{refl, ◌≡◌, Some, sym, ap, ◌∙◌, subst, arith}
 use Rattle.std.specs.Prelude.{option_copied, option_map, slice_get}
 use Rattle.queue_rows.specs.Turns.{flushed}
-use Rattle.run_state.specs.Sessions.{session_of, unmarked}
+use Rattle.session_registry.specs.Sessions.{session_of, unmarked}
 use Rattle.durable_state.specs.Going.{AddsEntries, Goes, goes_on}
 use Rattle.durable_state.specs.Held.{Held, HasFailed}
 use Rattle.durable_state.proofs.Growing.{adds_on, adds_same}

@@ -3,8 +3,8 @@ use Rattle.std.specs.Prelude.{option_copied, slice_get}
 use Rattle.queue_rows.specs.World.{database_at}
 use Rattle.run_state.specs.CallEffects.{called_with}
 use Rattle.run_state.specs.Sendings.{transit_of}
-use Rattle.run_state.specs.Sessions.{session_of, unmarked}
-use Rattle.run_state.proofs.Results.{some_of}
+use Rattle.session_registry.specs.Sessions.{session_of, unmarked}
+use Rattle.session_registry.proofs.Results.{some_of}
 use Rattle.run_state.proofs.Putting.{run_of}
 use Rattle.run_state.proofs.Calls.{caller_of, next_entered, call_is, not_absent}
 use Rattle.run_state.proofs.state.RunState.call.Goals as goal

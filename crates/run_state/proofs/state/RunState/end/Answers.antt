@@ -3,8 +3,8 @@ use Rattle.std.specs.Prelude.{option_copied, option_map, slice_get}
 use Rattle.queue_rows.specs.World.{World}
 use Rattle.run_state.specs.Promises.{replies_owed}
 use Rattle.run_state.specs.Sendings.{transit_of}
-use Rattle.run_state.specs.Sessions.{session_of, unmarked, changed_at, after_end}
-use Rattle.run_state.proofs.Results.{if_some}
+use Rattle.session_registry.specs.Sessions.{session_of, unmarked, changed_at, after_end}
+use Rattle.session_registry.proofs.Results.{if_some}
 use Rattle.run_state.proofs.Promises.{owed_same}
 use Rattle.run_state.proofs.Putting.{run_of}
 use Rattle.run_state.proofs.Calls.{ended_is, not_absent}

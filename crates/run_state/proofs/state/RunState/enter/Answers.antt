@@ -4,7 +4,7 @@ use Rattle.queue_rows.specs.World.{uncounted, World, entry_of, stepped}
 use Rattle.run_state.specs.Entries.{AreCounted, HasNoCalls}
 use Rattle.run_state.specs.Sendings.{transit_of}
 use Rattle.run_state.proofs.Promises.{put_one, room_behind}
-use Rattle.run_state.proofs.Results.{all_pushed}
+use Rattle.session_registry.proofs.Results.{all_pushed}
 use Rattle.run_state.proofs.Putting.{run_of, entered_by, no_calls, counted_put, ok_three, err_three}
 use Rattle.run_state.proofs.state.RunState.enter.Goals as goal
 

@@ -7,11 +7,11 @@ use Rattle.queue_rows.specs.Sending.{home_of, away_of}
 use Rattle.run_state.specs.CallEffects.{IsFreeOf, IsLaterThan, closed_call, entered_call, holding, mark_of, pend_of}
 use Rattle.run_state.specs.Entries.{AreCounted, HasNoCalls}
 use Rattle.run_state.specs.Sendings.{transit_of}
-use Rattle.run_state.specs.Sessions.{IsFreeIn, changed_at, after_call, left_by}
+use Rattle.session_registry.specs.Sessions.{IsFreeIn, changed_at, after_call, left_by}
 use Rattle.run_state.proofs.Calls.{early_held, later_sides}
-use Rattle.run_state.proofs.Changing.{length-changed}
+use Rattle.session_registry.proofs.Changing.{length-changed}
 use Rattle.run_state.proofs.Promises.{length-left, put_one, room_behind}
-use Rattle.run_state.proofs.Results.{all_pushed, on_err}
+use Rattle.session_registry.proofs.Results.{all_pushed, on_err}
 use Rattle.run_state.proofs.Putting.{run_of, no_calls, entered_held_by, counted_put}
 use Rattle.run_state.proofs.state.RunState.enter_call.Goals as goal
 

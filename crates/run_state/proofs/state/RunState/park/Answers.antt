@@ -4,8 +4,8 @@ use Rattle.queue_rows.specs.Turns.{parked}
 use Rattle.queue_rows.specs.World.{World}
 use Rattle.run_state.specs.Promises.{replies_owed}
 use Rattle.run_state.specs.Sendings.{transit_of}
-use Rattle.run_state.specs.Sessions.{session_of, unmarked, changed_at, after_park}
-use Rattle.run_state.proofs.Results.{some_of}
+use Rattle.session_registry.specs.Sessions.{session_of, unmarked, changed_at, after_park}
+use Rattle.session_registry.proofs.Results.{some_of}
 use Rattle.run_state.proofs.Promises.{owed_same}
 use Rattle.run_state.proofs.Putting.{run_of}
 use Rattle.run_state.proofs.Calls.{session_there, not_absent, parked_is, waits_still}

@@ -7,8 +7,8 @@ use Rattle.queue_rows.specs.declared.history.Step.TheVariants.{Told}
 use Rattle.run_state.specs.Entries.{HasNoCalls}
 use Rattle.run_state.specs.Promises.{replies_owed}
 use Rattle.run_state.specs.Sendings.{transit_of}
-use Rattle.run_state.specs.Sessions.{changed_at, after_reply, session_of, unmarked}
-use Rattle.run_state.proofs.Results.{if_some, of_some}
+use Rattle.session_registry.specs.Sessions.{changed_at, after_reply, session_of, unmarked}
+use Rattle.session_registry.proofs.Results.{if_some, of_some}
 use Rattle.run_state.proofs.Promises.{owed_told}
 use Rattle.run_state.proofs.Putting.{run_of, counted_more, no_calls, noted_by}
 use Rattle.run_state.proofs.Calls.{session_there, sessions-flushed, told_is}

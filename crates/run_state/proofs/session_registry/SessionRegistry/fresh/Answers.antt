@@ -1,5 +1,0 @@
-use Rattle.run_state.proofs.ShownSessions.{fresh-shown}
-use Rattle.run_state.proofs.session_registry.SessionRegistry.fresh.Goals as goal
-
-pub returns : goal.returns
-returns c = fresh-shown c.new.result c.in_ok-fresh.field-0 c.args.scripts.now c.new.ensures.home c.new.ensures.away c.in_ok-fresh.ensures

@@ -1,6 +1,0 @@
-use Rattle.std.proofs.Common.{ap, ◌∙◌}
-use Rattle.run_state.specs.Sessions.{left_by}
-use Rattle.run_state.proofs.session_states.SessionStates.leave.Goals as goal
-
-pub returns : goal.returns
-returns c = c.leave_all.ensures ∙ ap (left_by c.args.db c.args.queues.now) c.self.view_is

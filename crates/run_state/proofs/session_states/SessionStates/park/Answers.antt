@@ -1,6 +1,0 @@
-use Rattle.std.proofs.Common.{ap, ◌∙◌}
-use Rattle.run_state.specs.Sessions.{changed_at, after_park}
-use Rattle.run_state.proofs.session_states.SessionStates.park.Goals as goal
-
-pub returns : goal.returns
-returns c = c.park_at.ensures ∙ ap (changed_at c.args.at (after_park c.args.since)) c.self.view_is

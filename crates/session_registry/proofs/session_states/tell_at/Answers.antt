@@ -1,0 +1,17 @@
+use Rattle.std.proofs.Common.{◌≡◌, Some, None, rules}
+use Rattle.std.specs.Prelude.{slice_get}
+use Rattle.session_registry.specs.Sessions.{after_reply}
+use Rattle.session_registry.proofs.States.{state_changes, no_state_changes}
+use Rattle.session_registry.proofs.session_states.tell_at.Goals as goal
+
+pub returns-in-Some : goal.returns-in-Some
+returns-in-Some c =
+    let f = after_reply in
+    let there : slice_get c.args.states.now c.args.at ≡ Some c.in-Some.session.now = search (rules, c.get_mut.ensures.value, c.in-Some.is) in
+    state_changes f c.args.states.now c.args.at c.in-Some.session.now c.tell.new.session there c.tell.ensures
+
+pub returns-in_default : goal.returns-in_default
+returns-in_default c =
+    let f = after_reply in
+    let none : slice_get c.args.states.now c.args.at ≡ None = search (rules, c.get_mut.ensures.value, c.in_default.is) in
+    no_state_changes f c.args.states.now c.args.at none
