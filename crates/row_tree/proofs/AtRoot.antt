@@ -20,7 +20,7 @@ at_root {T} {root} {fork} {node} {k} {xs} view is here row =
 
 -- the root's row is there, and its sides make the tree
 pub root_row : {T : Type 0} {root : Option (Box (Fork T) Global)} {fork : Box (Fork T) Global} {node : Fork T} → IsWhole root → root ≡ Some fork → node ≡ fork.value → IsSome node.row
-root_row whole is here = subst (λ n. IsSome n.row) (sym here) (subst IsWhole is whole).0
+root_row whole is here = subst (λ n. IsSome n.row) (sym here) (subst IsWhole is whole)
 
 pub root_rows : {T : Type 0} {root : Option (Box (Fork T) Global)} {fork : Box (Fork T) Global} {node : Fork T} {xs : List T}
     → rows root ≡ xs → root ≡ Some fork → node ≡ fork.value → node.left ++ (option_to_list node.row ++ node.right) ≡ xs

@@ -19,6 +19,8 @@ use std::mem;
 #[derive(Drop)]
 pub struct Tree<T> {
     pub(crate) root: Option<Box<Fork<T>>>,
+    // (beside the root and not in it, so that to count a side is no look at its root)
+    count: usize,
 }
 
 #[cycle(tree)]
@@ -26,12 +28,11 @@ pub struct Tree<T> {
 pub(crate) struct Fork<T> {
     pub(crate) left: Tree<T>,
     pub(crate) right: Tree<T>,
-    count: usize,
     pub(crate) row: Option<T>,
 }
 
 impl<T> Model for Tree<T> {
-    ghost use Rattle.std.specs.Prelude.{List as Sequence, length};
+    ghost use Rattle.std.specs.Prelude.{◌≡◌, List as Sequence, length};
     ghost use Rattle.std.specs.Coded.{coded_list};
 
     ghost Value = { Sequence T };
@@ -42,13 +43,13 @@ impl<T> Model for Tree<T> {
 
     ghost view = { λ t. rows t.root };
 
-    ghost invariant = { λ t. IsWhole t.root };
+    ghost invariant = { λ t. IsWhole t.root × (t.count ≡ length (rows t.root)) };
 
     ghost size = { length };
 
     ghost use Rattle.row_tree.specs.RowsFall.{sides_are_shorter};
 
-    ghost size_decreases = { λ t whole. sides_are_shorter t.root whole };
+    ghost size_decreases = { λ t whole. sides_are_shorter t.root t.count whole.0 };
 }
 
 /// A place for a row that is to be put in.
@@ -69,17 +70,17 @@ impl<T> Tree<T> {
     pub fn new() -> Tree<T>
         ensures { result ≡ [] }
     {
-        Tree { root: None }
+        Tree {
+            root: None,
+            count: 0,
+        }
     }
 
     /// How many rows there are. It takes no memory.
     pub fn len(&self) -> usize
         ensures { result ≡ length self.now }
     {
-        match &self.root {
-            None => 0,
-            Some(fork) => fork.count,
-        }
+        self.count
     }
 }
 
@@ -152,10 +153,10 @@ impl<T: Drop> Tree<T> {
         ensures fits { IfSome result (λ _. length self ≤ usize.MAX) }
         ensures none { IfNone result (self ≡ []) }
     {
+        let _count = self.count;
         match self.root {
             None => None,
             Some(mut fork) => {
-                let _count = fork.count;
                 let left = mem::replace(&mut fork.left, Tree::new());
                 let right = mem::replace(&mut fork.right, Tree::new());
                 Some(Opened { left, fork, right })
@@ -374,10 +375,13 @@ fn hang<T: Drop>(mut fork: Box<Fork<T>>, left: Tree<T>, right: Tree<T>) -> Tree<
     requires fits { length left + length right < usize.MAX }
     ensures { result ≡ left ++ (option_to_list fork.value.row ++ right) }
 {
-    fork.count = left.len() + right.len() + 1;
+    let count = left.len() + right.len() + 1;
     fork.left = left;
     fork.right = right;
-    Tree { root: Some(fork) }
+    Tree {
+        root: Some(fork),
+        count,
+    }
 }
 
 // A root over both sides, turned where one of them weighs more than three times the other, its weight being the number of its rows and one:
@@ -467,7 +471,6 @@ impl<T: Drop> Spare<T> {
                 Fork {
                     left: Tree::new(),
                     right: Tree::new(),
-                    count: 0,
                     row: None,
                 },
             )?,

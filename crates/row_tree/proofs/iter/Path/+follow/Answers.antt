@@ -8,7 +8,7 @@ pub invariant_of-self-2 : goal.invariant_of-self-2
 invariant_of-self-2 g t c =
     let fork = c.deref-fork.result in
     subst HaveRows (sym c.push.ensures.items)
-    (one_more c.self.inside.forks.items (Some fork) c.self.invariant (root_row c.tree.invariant c.in-Some.is c.deref-fork.ensures))
+    (one_more c.self.inside.forks.items (Some fork) c.self.invariant (root_row c.tree.invariant.0 c.in-Some.is c.deref-fork.ensures))
 
 pub returns : goal.returns
 returns g t c some =
