@@ -28,7 +28,8 @@ impl Model for NameIndex {
 
     ghost view = { λ i. names_in i.entries };
 
-    ghost invariant = { λ i. AreRising i.entries × AreBelow i.next i.entries × TellsStamps i.groups i.entries };
+    ghost invariant = { λ i.
+        AreRising i.entries × AreBelow i.next i.entries × TellsStamps i.groups i.entries };
 }
 
 impl NameIndex {

@@ -23,7 +23,8 @@ impl<'a, 'n, T: Named> Model for Of<'a, 'n, T> {
 
     ghost view = { λ o. drop o.at (filter (λ item. bytes_eq (T.name_of item) o.name.now) o.list.now) };
 
-    ghost invariant = { λ o. o.at ≤ length (filter (λ item. bytes_eq (T.name_of item) o.name.now) o.list.now) };
+    ghost invariant = { λ o.
+        o.at ≤ length (filter (λ item. bytes_eq (T.name_of item) o.name.now) o.list.now) };
 }
 
 impl<T: Named> NamedList<T> {
