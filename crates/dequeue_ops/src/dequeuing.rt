@@ -12,6 +12,7 @@ use crate::by_request::dequeue_by;
 use crate::request::{Asked, Request};
 use exception_queues::{find_queue, find_table};
 use message_choice::{ChoosesMessages, has_needless_consumer, lacks_consumer};
+use payload_records::Boxed;
 use queue_rows::{Dequeue, Mode, Navigation, QueueRow, Reply, TableRow};
 use row_locks::RowLocks;
 use rule_checks::{CheckFault, read_checked};
@@ -57,7 +58,10 @@ fn dequeue_where<'a, T: ChoosesMessages>(
             };
             dequeue_by(store, &asked)
         }
-        Err(CheckFault::Refused(fault)) => Ok(refuse(request, Reply::BadCondition(fault))),
+        Err(CheckFault::Refused(fault)) => {
+            let fault = Boxed::new(request.alloc, fault)?;
+            Ok(refuse(request, Reply::BadCondition(fault)))
+        }
         Err(CheckFault::Memory) => Err(AllocError),
     }
 }

@@ -9,8 +9,8 @@ use crate::reply::{retries_of, shown_in};
 use crate::request::Asked;
 use exception_queues::MessageTables;
 use message_groups::group_of;
-use payload_records::{Copied, List};
-use queue_rows::{Change, Mode, MsgId, MsgRow, Pending, Reply, Visibility};
+use payload_records::{Boxed, Copied, List};
+use queue_rows::{Change, GivenMessage, Mode, MsgId, MsgRow, Pending, Reply, Visibility};
 use sessions::{Effect, PositionMove, changes_alone};
 use slot_marks::Mark;
 use std::alloc::{AllocError, Global};
@@ -20,7 +20,7 @@ use std::alloc::{AllocError, Global};
 fn message_reply(asked: &Asked<'_>, message: &MsgRow, slot: u32) -> Result<Reply, AllocError>
     ensures { IfOk result (IsReply asked.now message.now slot) }
 {
-    Ok(Reply::Message {
+    let given = GivenMessage {
         id: MsgId {
             db: asked.request.session.at,
             number: message.id,
@@ -30,7 +30,8 @@ fn message_reply(asked: &Asked<'_>, message: &MsgRow, slot: u32) -> Result<Reply
         corr: Copied::copied(&message.facts.corr)?,
         payload: shown_in(asked.request.ask.mode, asked.table, message)?,
         props: message.facts.props.copied()?,
-    })
+    };
+    Ok(Reply::Message(Boxed::new(asked.request.alloc, given)?))
 }
 
 // ---- what becomes of the slot

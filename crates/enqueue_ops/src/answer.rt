@@ -16,7 +16,7 @@ use crate::message::new_message;
 use crate::relative::{is_too_deep, relative_of};
 use aq_base::{DbId, NEXT_LIMIT};
 use exception_queues::{MessageTables, find_queue, find_table};
-use payload_records::{Name, PayloadFault, Record};
+use payload_records::{Boxed, Name, PayloadFault, Record};
 use queue_rows::{
     Enqueue, LimitName, MsgId, MsgRow, Pending, QueueRow, Reply, TableRow, Tables, Visibility,
 };
@@ -171,7 +171,7 @@ fn enqueue_typed<T: MessageTables>(
     match Record::from_json(alloc, &table.fields, &ask.payload) {
         Ok(cells) => enqueue_cells(alloc, store, at, table, ask, &cells, stamp),
         Err(PayloadFault::Memory) => Err(AllocError),
-        Err(fault) => Ok(refused(alloc, Reply::Payload(fault))),
+        Err(fault) => Ok(refused(alloc, Reply::Payload(Boxed::new(alloc, fault)?))),
     }
 }
 

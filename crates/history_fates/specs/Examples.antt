@@ -42,7 +42,14 @@ abbrev pub taking : Visibility → Statement
 taking visibility = statements.Dequeue (record { queue = codes "q"; consumer = None; mode = modes.Remove; navigation = navigations.Next; visibility = visibility; wait = 0; msgid = None; corr = None; condition = None })
 
 abbrev pub message_shown : Reply
-message_shown = replies.Message (record { db = Home; number = 1 }) (pos 1) 0 None (Some (record { kind = []; cells = record { cells = [] } })) []
+message_shown = replies.Message (record {
+  id = record { db = Home; number = 1 };
+  priority = pos 1;
+  retries = 0;
+  corr = None;
+  payload = Some (record { kind = []; cells = record { cells = [] } });
+  props = [];
+})
 
 -- message 1 is taken at once, and goes
 abbrev pub example_taken : History

@@ -72,4 +72,4 @@ ServesFirst t locks actor agents reply = (sessions : List Session) (s : Session)
     → served_from 1 (is_served t sessions actor s) agents ≡ reply
 
 abbrev pub agent_reply : ℕ → Listener → Reply
-agent_reply number agent = replies.Agent number agent.queue agent.consumer
+agent_reply number agent = replies.Agent (record { number = number; queue = agent.queue; consumer = agent.consumer })

@@ -38,7 +38,7 @@ pub fn listen<T: ChoosesMessages>(
     if let Some(reply) = agents_fault(store.tables(), &ask.agents) {
         return Ok(Effect::answered(alloc, reply));
     }
-    if let Some(reply) = served(store, locks, actor, &ask.agents)? {
+    if let Some(reply) = served(alloc, store, locks, actor, &ask.agents)? {
         return Ok(Effect::answered(alloc, reply));
     }
     if still_waits(session.parked, ask.wait, moment) {

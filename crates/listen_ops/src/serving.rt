@@ -7,11 +7,11 @@ ghost use Rattle.listen_ops.specs.Listened.{CanListen, IsFound, IsPickOf, IsServ
 
 use exception_queues::{find_queue, find_table};
 use message_choice::{Choice, ChoosesMessages, Pick};
-use payload_records::{Copied, List};
-use queue_rows::{Listener, Mode, Navigation, QueueRow, Reply, TableRow};
+use payload_records::{Boxed, Copied, List};
+use queue_rows::{Listener, Mode, Navigation, QueueRow, Reply, ServedAgent, TableRow};
 use row_locks::RowLocks;
 use sort_index::Steps;
-use std::alloc::AllocError;
+use std::alloc::{AllocError, Global};
 use std::marker::Brand;
 use std::sync::ledger::{Blank, Ledger};
 
@@ -75,18 +75,20 @@ fn is_served<T: ChoosesMessages>(store: &T, locks: &RowLocks, actor: u32, agent:
     has_message(store, locks, actor, &pick_of(queue, table, agent))
 }
 
-fn agent_reply(number: u32, agent: &Listener) -> Result<Reply, AllocError>
+fn agent_reply(alloc: Global, number: u32, agent: &Listener) -> Result<Reply, AllocError>
     ensures { IfOk result (λ reply. reply ≡ agent_reply number agent.now) }
 {
-    Ok(Reply::Agent {
+    let served = ServedAgent {
         number,
         queue: agent.queue.copied()?,
         consumer: Copied::copied(&agent.consumer)?,
-    })
+    };
+    Ok(Reply::Agent(Boxed::new(alloc, served)?))
 }
 
 /// The first agent that has a message for the session of that number, with its place in the list; None where none has.
 pub(crate) fn served<T: ChoosesMessages>(
+    alloc: Global,
     store: &T,
     locks: &RowLocks,
     actor: u32,
@@ -99,7 +101,7 @@ pub(crate) fn served<T: ChoosesMessages>(
     let mut number = 1;
     for agent in agents {
         if is_served(store, locks, actor, agent) {
-            return Ok(Some(agent_reply(number, agent)?));
+            return Ok(Some(agent_reply(alloc, number, agent)?));
         }
         number += 1;
     }

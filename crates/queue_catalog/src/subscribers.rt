@@ -12,7 +12,7 @@ use crate::lookup::{find_sub, has_consumers, has_subscribers};
 use crate::removal::drop_slots_in;
 use aq_base::SUBSCRIBER_LIMIT;
 use exception_queues::{find_queue, find_table};
-use payload_records::{Copied, List, Name, RecordType, Text};
+use payload_records::{Boxed, Copied, List, Name, RecordType, Text};
 use queue_rows::{Change, LimitName, Reply, SubRow, Tables};
 use rule_checks::{CheckFault, read_checked};
 use std::alloc::{AllocError, Global};
@@ -40,6 +40,7 @@ fn put_sub(
     let rule = match read_checked(alloc, rule.as_ref(), fields) {
         Ok(rule) => rule,
         Err(CheckFault::Refused(fault)) => {
+            let fault = Boxed::new(alloc, fault)?;
             return Err(CatalogFault::Refused(Reply::BadCondition(fault)));
         }
         Err(CheckFault::Memory) => return Err(CatalogFault::Memory),

@@ -159,7 +159,14 @@ abbrev pub retries_of : MsgRow → ℕ → ℕ
 retries_of m slot = option_map_or (λ s. s.retries) (slot_of m slot) 0
 
 abbrev pub message_reply : Look → MsgRow → ℕ → Reply
-message_reply l m slot = replies.Message (record { db = l.session.at; number = m.id }) m.facts.priority (retries_of m slot) m.facts.corr (shown_in l.ask.mode l.table m) m.facts.props
+message_reply l m slot = replies.Message (record {
+  id = record { db = l.session.at; number = m.id };
+  priority = m.facts.priority;
+  retries = retries_of m slot;
+  corr = m.facts.corr;
+  payload = shown_in l.ask.mode l.table m;
+  props = m.facts.props;
+})
 
 -- taken as a transaction of its own: the slot is done, and the session's own mark on it goes
 abbrev pub taken_at_once : Look → Session → ℕ → MsgRow → ℕ → Meaning

@@ -16,7 +16,7 @@ mod tables;
 pub use change::{Change, Commit};
 pub use history::{Arrival, Cause, Entry, History, SessionScript, SlotRef, Step};
 pub use lanes::lane_of;
-pub use reply::{ConditionFault, LimitName, Reply, Shown};
+pub use reply::{ConditionFault, GivenMessage, LimitName, Reply, ServedAgent, Shown};
 pub use rows::{
     MsgRow, QueueKind, QueueRow, ScheduleRow, SeenRow, SlotRow, SlotState, SubKey, SubRow, TableRow,
 };

@@ -80,7 +80,7 @@ module _ (t : Tables) (s : Session) (moment : ℕ) (held : AreFullAdditions s.pe
   in_spells modes.Locked visibility reply cs after h = nothing_spells reply cs after h
 
   takes_spell : (reply : Reply) (ask : Dequeue) (cs : List Change) (after : Session) → Takes reply ask t s moment cs after → SpellsAnswer reply cs after
-  takes_spell (replies.Message id priority retries corr shown props) ask cs after h = in_spells ask.mode ask.visibility (replies.Message id priority retries corr shown props) cs after h
+  takes_spell (replies.Message message) ask cs after h = in_spells ask.mode ask.visibility (replies.Message message) cs after h
   takes_spell reply ask cs after h = nothing_spells reply cs after h
 
   -- ---- the ends of transactions

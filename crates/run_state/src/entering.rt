@@ -15,7 +15,7 @@ use session_registry::SessionRegistry;
 use std::alloc::AllocError;
 
 // The history has an entry or more for each statement, so entries stay small beside what they commit: bytes.
-const _: () = prove!(size_of::<Entry>() <= 224);
+const _: () = prove!(size_of::<Entry>() <= 128);
 
 /// Makes what the last entry commits. Each commit has an entry, so their number fits.
 fn commit_last(

@@ -16,7 +16,7 @@ use crate::entering::{put, put_call};
 use crate::state::RunState;
 use crate::transit::{Stage, Transit};
 use aq_base::DbId;
-use payload_records::{Copied, List, Name};
+use payload_records::{Boxed, Copied, List, Name};
 use propagation::Arriving;
 use queue_catalog::exception_name;
 use queue_rows::{Arrival, Change, Entry, Reply, SeenRow, SlotRef, Step, Tables};
@@ -303,6 +303,7 @@ impl RunState {
         ensures ok { OnOk result (self.new ≡ sent actor (offers at to) self.old) }
         ensures err { OnErr result (self.new ≡ self.old) }
     {
+        let to = Boxed::new(self.alloc, to)?;
         self.note(actor, Step::Offer { at, to })?;
         self.transit = Some(Transit {
             slot: at,

@@ -190,7 +190,7 @@ module _ (t : Tables) (s : Session) (next moment : ℕ) (k : MayEnd t next momen
   after_taken modes.Locked visibility cs after h m = held_same t s next moment k after h.pending m
 
   after_takes : (ask : Dequeue) (reply : Reply) (cs : List Change) (after : Session) → Takes reply ask t s moment cs after → MarksAgree after → MayEnd t next moment after
-  after_takes ask (replies.Message id priority retries corr shown props) cs after h m = after_taken ask.mode ask.visibility cs after h m
+  after_takes ask (replies.Message message) cs after h m = after_taken ask.mode ask.visibility cs after h m
   after_takes ask _ cs after h m = held_same t s next moment k after h.pending m
 
 pub enqueue_keeps_end : (t : Tables) (s : Session) (ask : Enqueue) (next moment : ℕ) (reply : Reply) (cs : List Change) (after : Session) → is_valid t ≡ true → has_ordered_fields t ≡ true → t.latest ≤ moment → moment ≤ MOMENT_LIMIT → t.next ≤ next

@@ -328,7 +328,7 @@ in_so modes.Browse visibility t s moment cs after h = nothing_so t s moment cs a
 in_so modes.Locked visibility t s moment cs after h = nothing_so t s moment cs after h
 
 pub takes_so : (reply : Reply) (ask : Dequeue) (t : Tables) (s : Session) (moment : ℕ) (cs : List Change) (after : Session) → Takes reply ask t s moment cs after → TakesSo t s moment cs after
-takes_so (replies.Message id priority retries corr shown props) ask t s moment cs after h = in_so ask.mode ask.visibility t s moment cs after h
+takes_so (replies.Message message) ask t s moment cs after h = in_so ask.mode ask.visibility t s moment cs after h
 takes_so _ ask t s moment cs after h = nothing_so t s moment cs after h
 
 module _ (t : Tables) (db : DbId) (next moment i : ℕ) (s behind after : Session) (sessions : List Session) (cs : List Change) (v : is_valid t ≡ true) (le : t.latest ≤ moment) (top : moment ≤ MOMENT_LIMIT) (k : AreStanding t db next moment sessions)

@@ -58,7 +58,7 @@ TakesIn modes.Locked visibility t s moment cs after = TakesNothing s cs after
 
 -- a dequeue that is answered otherwise takes nothing
 abbrev pub Takes : Reply → Dequeue → Tables → Session → ℕ → List Change → Session → Type 0
-Takes (replies.Message id priority retries corr shown props) ask t s moment cs after = TakesIn ask.mode ask.visibility t s moment cs after
+Takes (replies.Message message) ask t s moment cs after = TakesIn ask.mode ask.visibility t s moment cs after
 Takes _ ask t s moment cs after = TakesNothing s cs after
 
 -- it takes what it may, and the session's marks and removals agree after it as they did before

@@ -1,6 +1,6 @@
 // What is printed of replies and steps that no script brings about, or none that is short. The transcripts show the rest.
 use aq_base::DbId;
-use payload_records::{List, Name};
+use payload_records::{Boxed, List, Name};
 use queue_rows::{
     Arrival, Cause, Entry, History, LimitName, Reply, SessionScript, SlotRef, Statement, Step,
     Tables,
@@ -189,7 +189,7 @@ fn add_arrivals(entries: &mut List<Entry>, alloc: Global) -> Result<(), AllocErr
 fn add_propagated(entries: &mut List<Entry>, alloc: Global) -> Result<(), Fail> {
     add_arrivals(entries, alloc)?;
     let at = slot(DbId::Home, 2, 3);
-    let to = Name::read(alloc, "bills")?;
+    let to = Boxed::new(alloc, Name::read(alloc, "bills")?)?;
     add(entries, alloc, 65, Step::Offer { at, to })?;
     add(entries, alloc, 65, Step::Confirm { at })?;
     add(entries, alloc, 65, Step::Flush)?;

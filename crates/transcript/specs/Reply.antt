@@ -1,12 +1,13 @@
 -- The text of a reply: a word, and with some words more behind it.
-use Rattle.std.specs.Prelude.{ℕ, ℤ, ◌++◌, List, [], codes, decimal, Option, Some, None, unwrap_or}
+use Rattle.std.specs.Prelude.{ℕ, ◌++◌, List, [], codes, decimal, Option, Some, None, unwrap_or}
 use Rattle.std.specs.Fmt.{signed_decimal}
-use Rattle.payload_records.specs.declared.props.Prop.{Prop}
 use Rattle.payload_records.specs.declared.record.PayloadFault.{PayloadFault}
 use Rattle.payload_records.specs.declared.record.PayloadFault.TheVariants as payloads
 use Rattle.queue_rows.specs.declared.history.SessionScript.{SessionScript}
 use Rattle.queue_rows.specs.declared.reply.Reply.{Reply}
 use Rattle.queue_rows.specs.declared.reply.Reply.TheVariants as replies
+use Rattle.queue_rows.specs.declared.reply.GivenMessage.{GivenMessage}
+use Rattle.queue_rows.specs.declared.reply.ServedAgent.{ServedAgent}
 use Rattle.queue_rows.specs.declared.reply.Shown.{Shown}
 use Rattle.queue_rows.specs.declared.reply.ConditionFault.{ConditionFault}
 use Rattle.queue_rows.specs.declared.reply.ConditionFault.TheVariants as conditions
@@ -19,8 +20,8 @@ use Rattle.transcript.specs.Text.{id_text, session_text, json_text, json_or_null
 abbrev pub reply_word : Reply → List ℕ
 reply_word replies.Ok = codes "ok"
 reply_word (replies.Enqueued id) = codes "ok"
-reply_word (replies.Message id priority retries corr payload props) = codes "message"
-reply_word (replies.Agent number queue consumer) = codes "agent"
+reply_word (replies.Message message) = codes "message"
+reply_word (replies.Agent agent) = codes "agent"
 reply_word (replies.Held session) = codes "held"
 reply_word (replies.Payload fault) = codes "payload"
 reply_word (replies.BadCondition fault) = codes "bad-condition"
@@ -54,18 +55,18 @@ payload_text None = []
 payload_text (Some shown) = codes " " ++ record_text shown
 
 -- what a message reply says before its properties
-abbrev pub message_head : MsgId → ℤ → ℕ → Option (List ℕ) → Option Shown → List ℕ
-message_head id priority retries corr payload =
-    codes " " ++ id_text id.db id.number ++ codes " priority " ++ signed_decimal priority ++ codes " retries " ++ decimal retries
-    ++ codes " corr " ++ json_or_null corr ++ payload_text payload
+abbrev pub message_head : GivenMessage → List ℕ
+message_head m =
+    codes " " ++ id_text m.id.db m.id.number ++ codes " priority " ++ signed_decimal m.priority ++ codes " retries " ++ decimal m.retries
+    ++ codes " corr " ++ json_or_null m.corr ++ payload_text m.payload
 
-abbrev pub message_text : MsgId → ℤ → ℕ → Option (List ℕ) → Option Shown → List Prop → List ℕ
-message_text id priority retries corr payload props = message_head id priority retries corr payload ++ props_text props
+abbrev pub message_text : GivenMessage → List ℕ
+message_text m = message_head m ++ props_text m.props
 
 -- the agent's place in the list, its queue, and its consumer or a hyphen
-abbrev pub agent_text : ℕ → List ℕ → Option (List ℕ) → List ℕ
-agent_text number queue consumer =
-    codes " " ++ decimal number ++ codes " " ++ queue ++ codes " " ++ unwrap_or consumer (codes "-")
+abbrev pub agent_text : ServedAgent → List ℕ
+agent_text agent =
+    codes " " ++ decimal agent.number ++ codes " " ++ agent.queue ++ codes " " ++ unwrap_or agent.consumer (codes "-")
 
 abbrev pub enqueued_text : MsgId → List ℕ
 enqueued_text id = codes " " ++ id_text id.db id.number
@@ -102,8 +103,8 @@ limit_text limits.Ids = codes " ids"
 -- what stands behind the word
 abbrev pub reply_details : List SessionScript → Reply → List ℕ
 reply_details scripts (replies.Enqueued id) = enqueued_text id
-reply_details scripts (replies.Message id priority retries corr payload props) = message_text id priority retries corr payload props
-reply_details scripts (replies.Agent number queue consumer) = agent_text number queue consumer
+reply_details scripts (replies.Message message) = message_text message
+reply_details scripts (replies.Agent agent) = agent_text agent
 reply_details scripts (replies.Held session) = codes " " ++ session_text scripts session
 reply_details scripts (replies.Payload fault) = payload_fault_text fault
 reply_details scripts (replies.BadCondition fault) = condition_fault_text fault

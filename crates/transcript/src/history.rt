@@ -92,7 +92,7 @@ fn put_entry(
             put_call(out, &history.scripts, entry.actor, *number, is_told, reply)
         }
         Step::Timer => put_timer(out, entry),
-        Step::Offer { at, to } => put_offer(out, *at, to),
+        Step::Offer { at, to } => put_offer(out, *at, to.get()),
         Step::Arrive { at, outcome } => put_arrive(out, *at, *outcome),
         Step::Confirm { at } => put_confirm(out, *at),
         Step::End => put_end(out, &history.scripts, entry.actor),

@@ -1,12 +1,14 @@
 // The text of a reply: a word, and with some words more behind it.
 ghost use Rattle.std.specs.Prelude.{◌≡◌, OnOk, unwrap_or, codes};
-ghost use Rattle.transcript.specs.Reply.{reply_word, payload_text, message_head, agent_text, enqueued_text, payload_fault_word, payload_fault_place, payload_fault_text, condition_fault_text, limit_text, reply_details, reply_text};
+ghost use Rattle.transcript.specs.Reply.{reply_word, payload_text, message_head, message_text, agent_text, enqueued_text, payload_fault_word, payload_fault_place, payload_fault_text, condition_fault_text, limit_text, reply_details, reply_text};
 ghost use Rattle.transcript.specs.Text.{Writes};
 
 use crate::record::{put_props, put_record};
 use crate::text::{Id, put_json, put_json_or_null, session_name};
-use payload_records::{List, Name, PayloadFault, Prop, Text};
-use queue_rows::{ConditionFault, LimitName, MsgId, Reply, SessionScript, Shown};
+use payload_records::{List, Name, PayloadFault};
+use queue_rows::{
+    ConditionFault, GivenMessage, LimitName, MsgId, Reply, ServedAgent, SessionScript, Shown,
+};
 use std::alloc::AllocError;
 
 fn reply_word(reply: &Reply) -> &'static str
@@ -14,8 +16,8 @@ fn reply_word(reply: &Reply) -> &'static str
 {
     match reply {
         Reply::Ok | Reply::Enqueued(_) => "ok",
-        Reply::Message { .. } => "message",
-        Reply::Agent { .. } => "agent",
+        Reply::Message(_) => "message",
+        Reply::Agent(_) => "agent",
         Reply::Held(_) => "held",
         Reply::Payload(_) => "payload",
         Reply::BadCondition(_) => "bad-condition",
@@ -55,20 +57,22 @@ fn put_payload(out: &mut String, payload: &Option<Shown>) -> Result<(), AllocErr
     put_record(out, shown)
 }
 
-fn put_message_head(
-    out: &mut String,
-    id: MsgId,
-    priority: i64,
-    retries: u64,
-    corr: &Option<Text>,
-    payload: &Option<Shown>,
-) -> Result<(), AllocError>
-    ensures { OnOk result (Writes out.old out.new (message_head id priority retries corr.now payload.now)) }
+fn put_message_head(out: &mut String, message: &GivenMessage) -> Result<(), AllocError>
+    ensures { OnOk result (Writes out.old out.new (message_head message.now)) }
 {
-    let id = Id(id);
+    let id = Id(message.id);
+    let priority = message.priority;
+    let retries = message.retries;
     write!(out, " {id} priority {priority} retries {retries} corr ")?;
-    put_json_or_null(out, corr)?;
-    put_payload(out, payload)
+    put_json_or_null(out, &message.corr)?;
+    put_payload(out, &message.payload)
+}
+
+fn put_message(out: &mut String, message: &GivenMessage) -> Result<(), AllocError>
+    ensures { OnOk result (Writes out.old out.new (message_text message.now)) }
+{
+    put_message_head(out, message)?;
+    put_props(out, &message.props)
 }
 
 fn consumer_text(consumer: &Option<Name>) -> &str
@@ -80,16 +84,12 @@ fn consumer_text(consumer: &Option<Name>) -> &str
     }
 }
 
-fn put_agent(
-    out: &mut String,
-    number: u32,
-    queue: &Name,
-    consumer: &Option<Name>,
-) -> Result<(), AllocError>
-    ensures { OnOk result (Writes out.old out.new (agent_text number queue.now consumer.now)) }
+fn put_agent(out: &mut String, agent: &ServedAgent) -> Result<(), AllocError>
+    ensures { OnOk result (Writes out.old out.new (agent_text agent.now)) }
 {
-    let queue = queue.as_str();
-    let consumer = consumer_text(consumer);
+    let number = agent.number;
+    let queue = agent.queue.as_str();
+    let consumer = consumer_text(&agent.consumer);
     write!(out, " {number} {queue} {consumer}")
 }
 
@@ -168,28 +168,14 @@ fn put_details(
 {
     match reply {
         Reply::Enqueued(id) => put_id(out, *id),
-        Reply::Message {
-            id,
-            priority,
-            retries,
-            corr,
-            payload,
-            props,
-        } => {
-            put_message_head(out, *id, *priority, *retries, corr, payload)?;
-            put_props(out, props)
-        }
-        Reply::Agent {
-            number,
-            queue,
-            consumer,
-        } => put_agent(out, *number, queue, consumer),
+        Reply::Message(message) => put_message(out, message.get()),
+        Reply::Agent(agent) => put_agent(out, agent.get()),
         Reply::Held(session) => {
             let name = session_name(scripts, *session);
             write!(out, " {name}")
         }
-        Reply::Payload(fault) => put_payload_fault(out, fault),
-        Reply::BadCondition(fault) => put_condition_fault(out, fault),
+        Reply::Payload(fault) => put_payload_fault(out, fault.get()),
+        Reply::BadCondition(fault) => put_condition_fault(out, fault.get()),
         Reply::Limit(name) => out.push_str(limit_text(*name)),
         _ => Ok(()),
     }
