@@ -1,3 +1,4 @@
+pub mod Counts
 pub mod Joined
 pub mod Objects
 pub mod Plain

@@ -107,7 +107,7 @@ fn put_entry(
 pub fn print(alloc: Global, history: &History) -> Result<Vec<u8>, AllocError>
     ensures { IfOk result (λ text. text.items ≡ print history.now) }
 {
-    let told = ToldCalls::of(alloc, &history.entries)?;
+    let told = ToldCalls::of(alloc, history.scripts.len(), &history.entries)?;
     let mut out = String::new(alloc);
     for entry in &history.entries {
         put_entry(&mut out, history, &told, entry)?;

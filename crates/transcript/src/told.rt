@@ -1,6 +1,6 @@
 // Which calls a history tells, noted in one walk over it.
-ghost use Rattle.std.specs.Prelude.{◌≡◌, ℕ, false, OnOk, IfOk};
-ghost use Rattle.transcript.specs.Told.{has_call, NotesCall, NotesEntry, AreToldBy};
+ghost use Rattle.std.specs.Prelude.{◌≡◌, ℕ, true, false, slice_get, OnOk, IfOk};
+ghost use Rattle.transcript.specs.Told.{is_next, is_up_to, has_call, NotesCall, NotesEntry, AreToldBy};
 
 use payload_records::List;
 use queue_rows::{Entry, Step};
@@ -14,26 +14,60 @@ pub(crate) struct Call {
     number: u32,
 }
 
-/// The calls whose replies were told.
+/// The calls whose replies were told. A session is told of its statements in order, so that a number has nearly all of them.
 #[derive(Drop)]
 pub(crate) struct ToldCalls {
-    calls: HashSet<Call>,
+    // Of each session up to which statement it was told of every one.
+    counts: List<u32>,
+    // The calls past that, and those of nobody's session.
+    others: HashSet<Call>,
 }
 
 impl ToldCalls {
-    // No call, with room for as many.
-    fn with_capacity(alloc: Global, calls: usize) -> Result<ToldCalls, AllocError>
+    // No call, where there are so many sessions.
+    #[tactic(auto, using(crate::proofs::Counts::none_counted))]
+    fn none(alloc: Global, sessions: usize) -> Result<ToldCalls, AllocError>
         ensures { IfOk result (λ told. (session number : ℕ) → has_call told session number ≡ false) }
     {
-        let calls = HashSet::with_capacity(alloc, calls)?;
-        Ok(ToldCalls { calls })
+        Ok(ToldCalls {
+            counts: List::from_vec(vec![in alloc; 0; sessions]?),
+            others: HashSet::new(alloc),
+        })
+    }
+
+    // Whether the session was told of every statement before that one, and of none from there on.
+    fn is_next(&self, session: u32, number: u32) -> bool
+        ensures { result ≡ is_next (slice_get self.now.counts session) number }
+    {
+        match self.counts.get(session as usize) {
+            Some(count) => u64::from(number) == u64::from(*count) + 1,
+            None => false,
+        }
+    }
+
+    fn count(&mut self, session: u32, number: u32)
+        requires { is_next (slice_get self.old.counts session) number ≡ true }
+        ensures { NotesCall session number self.old self.new }
+    {
+        self.counts.set(session as usize, number);
+    }
+
+    fn keep(&mut self, session: u32, number: u32) -> Result<(), AllocError>
+        ensures { OnOk result (NotesCall session number self.old self.new) }
+    {
+        self.others.insert(Call { session, number })?;
+        Ok(())
     }
 
     fn note(&mut self, session: u32, number: u32) -> Result<(), AllocError>
         ensures { OnOk result (NotesCall session number self.old self.new) }
     {
-        self.calls.insert(Call { session, number })?;
-        Ok(())
+        if self.is_next(session, number) {
+            self.count(session, number);
+            Ok(())
+        } else {
+            self.keep(session, number)
+        }
     }
 
     fn note_entry(&mut self, entry: &Entry) -> Result<(), AllocError>
@@ -45,25 +79,34 @@ impl ToldCalls {
         }
     }
 
-    /// The calls that these entries tell.
-    pub(crate) fn of(alloc: Global, entries: &List<Entry>) -> Result<ToldCalls, AllocError>
+    /// The calls that these entries tell, most of them of so many sessions.
+    pub(crate) fn of(
+        alloc: Global,
+        sessions: usize,
+        entries: &List<Entry>,
+    ) -> Result<ToldCalls, AllocError>
         ensures { IfOk result (AreToldBy entries.now) }
     {
-        let calls = entries
-            .iter()
-            .filter(|entry| matches!(entry.step, Step::Told { .. }))
-            .count();
-        let mut told = ToldCalls::with_capacity(alloc, calls)?;
+        let mut told = ToldCalls::none(alloc, sessions)?;
         for entry in entries {
             told.note_entry(entry)?;
         }
         Ok(told)
     }
 
+    fn is_counted(&self, session: u32, number: u32) -> bool
+        ensures { result ≡ is_up_to (slice_get self.now.counts session) number }
+    {
+        match self.counts.get(session as usize) {
+            Some(count) => 0 < number && number <= *count,
+            None => false,
+        }
+    }
+
     /// Whether that session's call of its statement of that number is among them.
     pub(crate) fn has(&self, session: u32, number: u32) -> bool
         ensures { result ≡ has_call self.now session number }
     {
-        self.calls.contains(&Call { session, number })
+        self.is_counted(session, number) || self.others.contains(&Call { session, number })
     }
 }

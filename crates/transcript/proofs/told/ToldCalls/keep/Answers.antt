@@ -1,7 +1,7 @@
 use Rattle.std.proofs.Common.{arith}
 use Rattle.std.proofs.lemmas.Grind.{common_steps}
 use Rattle.transcript.specs.declared.told.Call.{Call}
-use Rattle.transcript.proofs.told.ToldCalls.note.Goals as goal
+use Rattle.transcript.proofs.told.ToldCalls.keep.Goals as goal
 
 pub returns : goal.returns
 returns c = λ s n.
