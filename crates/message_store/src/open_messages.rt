@@ -13,12 +13,9 @@ ghost use Rattle.remote_slots.specs.Remote.{IndexesRemote};
 ghost use Rattle.row_tree.specs.Edits.{edit_at};
 
 use crate::caches::Caches;
-use crate::due_cache::DueCache;
 use crate::edits::{MoveTo, Retry, SetState};
 use crate::find::find;
 use crate::message_index::MessageIndex;
-use crate::ready_cache::ReadyCache;
-use crate::remote_cache::RemoteCache;
 use crate::row_room::RowRoom;
 use payload_records::Name;
 use queue_rows::{MsgRow, SlotRow, SlotState};
@@ -53,66 +50,38 @@ impl Model for OpenMessages {
         × AreOf m.index.stamps m.rows m.caches };
 }
 
-// The rows of the message at an index, which stands under the stamp, go.
-fn take_rows(ready: &mut ReadyCache, rows: &Tree<MsgRow>, at: usize, stamp: u64)
-    ensures { IfSome (slice_get rows.now at)
-        (λ m. Forgets IndexesReady stamp m ready.old.slots ready.new.slots) }
-{
-    if let Some(message) = rows.get(at) {
-        ready.remove(stamp, message);
-    }
-}
-
-// The rows of the message at an index, which stands under the stamp, come.
-fn put_rows(ready: &mut ReadyCache, rows: &Tree<MsgRow>, at: usize, stamp: u64)
-    ensures { IfSome (slice_get rows.now at)
-        (λ m. Notes IndexesReady stamp m ready.old.slots ready.new.slots) }
-{
-    if let Some(message) = rows.get(at) {
-        ready.put(stamp, message);
-    }
-}
-
-// The same in the index of slots that go to the other database.
-fn take_remote(remote: &mut RemoteCache, rows: &Tree<MsgRow>, at: usize, stamp: u64)
-    ensures { IfSome (slice_get rows.now at)
-        (λ m. Forgets IndexesRemote stamp m remote.old.slots remote.new.slots) }
-{
-    if let Some(message) = rows.get(at) {
-        remote.remove(stamp, message);
-    }
-}
-
-// The same in the index of slots that go to the other database.
-fn put_remote(remote: &mut RemoteCache, rows: &Tree<MsgRow>, at: usize, stamp: u64)
-    ensures { IfSome (slice_get rows.now at)
-        (λ m. Notes IndexesRemote stamp m remote.old.slots remote.new.slots) }
-{
-    if let Some(message) = rows.get(at) {
-        remote.put(stamp, message);
-    }
-}
-
-// What is due of the message at an index goes.
-fn take_due(due: &mut DueCache, rows: &Tree<MsgRow>, index: &MessageIndex, at: usize)
+// The rows of the message at an index, which stands under the stamp, go from each cache.
+fn take_from(caches: &mut Caches, rows: &Tree<MsgRow>, index: &MessageIndex, at: usize, stamp: u64)
     requires { index.now.ids ≡ ids_of rows.now }
-    ensures keeps { due.new.keeps ≡ due.old.keeps }
-    ensures rows { let keeps = keeps_in due.old.keeps in
-        IfDue keeps rows.now due.old.slots → IfDue keeps (remove rows.now at) due.new.slots }
+    ensures ready { IfSome (slice_get rows.now at)
+        (λ m. Forgets IndexesReady stamp m caches.old.ready.slots caches.new.ready.slots) }
+    ensures remote { IfSome (slice_get rows.now at)
+        (λ m. Forgets IndexesRemote stamp m caches.old.remote.slots caches.new.remote.slots) }
+    ensures keeps { caches.new.due.keeps ≡ caches.old.due.keeps }
+    ensures due { let keeps = keeps_in caches.old.due.keeps in
+        IfDue keeps rows.now caches.old.due.slots → IfDue keeps (remove rows.now at) caches.new.due.slots }
 {
     if let Some(message) = rows.get(at) {
-        due.remove(message, index.is_alone(message.id));
+        caches.ready.remove(stamp, message);
+        caches.remote.remove(stamp, message);
+        caches.due.remove(message, index.is_alone(message.id));
     }
 }
 
-// What is due of the message at an index comes.
-fn put_due(due: &mut DueCache, rows: &Tree<MsgRow>, at: usize)
-    ensures keeps { due.new.keeps ≡ due.old.keeps }
-    ensures rows { let keeps = keeps_in due.old.keeps in
-        IfSome (slice_get rows.now at) (λ m. Gains keeps m due.old.slots due.new.slots) }
+// The rows of the message at an index, which stands under the stamp, come to each cache.
+fn put_into(caches: &mut Caches, rows: &Tree<MsgRow>, at: usize, stamp: u64)
+    ensures ready { IfSome (slice_get rows.now at)
+        (λ m. Notes IndexesReady stamp m caches.old.ready.slots caches.new.ready.slots) }
+    ensures remote { IfSome (slice_get rows.now at)
+        (λ m. Notes IndexesRemote stamp m caches.old.remote.slots caches.new.remote.slots) }
+    ensures keeps { caches.new.due.keeps ≡ caches.old.due.keeps }
+    ensures due { let keeps = keeps_in caches.old.due.keeps in
+        IfSome (slice_get rows.now at) (λ m. Gains keeps m caches.old.due.slots caches.new.due.slots) }
 {
     if let Some(message) = rows.get(at) {
-        due.put(message);
+        caches.ready.put(stamp, message);
+        caches.remote.put(stamp, message);
+        caches.due.put(message);
     }
 }
 
@@ -191,9 +160,7 @@ impl OpenMessages {
         ensures { self.new ≡ record self.old { items = remove self.old.items at } }
     {
         let stamp = self.index.stamp_at(at);
-        take_rows(&mut self.caches.ready, &self.rows, at, stamp);
-        take_remote(&mut self.caches.remote, &self.rows, at, stamp);
-        take_due(&mut self.caches.due, &self.rows, &self.index, at);
+        take_from(&mut self.caches, &self.rows, &self.index, at, stamp);
         self.index.remove(at);
         let place = take_out(&mut self.rows, at);
         self.index.keep(place);
@@ -240,13 +207,9 @@ impl OpenMessages {
         ensures { self.new ≡ record self.old { items = edit_at self.old.items at (E.edited edit) } }
     {
         let stamp = self.index.stamp_at(at);
-        take_rows(&mut self.caches.ready, &self.rows, at, stamp);
-        take_remote(&mut self.caches.remote, &self.rows, at, stamp);
-        take_due(&mut self.caches.due, &self.rows, &self.index, at);
+        take_from(&mut self.caches, &self.rows, &self.index, at, stamp);
         self.rows.edit(at, edit);
-        put_rows(&mut self.caches.ready, &self.rows, at, stamp);
-        put_remote(&mut self.caches.remote, &self.rows, at, stamp);
-        put_due(&mut self.caches.due, &self.rows, at);
+        put_into(&mut self.caches, &self.rows, at, stamp);
     }
 
     /// The slot of the first message of that number is in that state from a moment on. It needs no memory.

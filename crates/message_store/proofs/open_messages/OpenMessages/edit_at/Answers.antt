@@ -15,11 +15,11 @@ invariant_of-self g c =
       rw c.edit.ensures (c.self.invariant.0 ∙ sym (ids_edited m.rows c.args.at change c.requires.id)),
       c.self.invariant.1,
       record {
-        ready = edited IndexesReady m.index.ids m.index.stamps m.rows c.edit.new.self c.args.at c.stamp_at-stamp.result change m.caches.ready.slots c.take_rows.new.ready.slots c.put_rows.new.ready.slots
-            c.self.invariant.1 within c.stamp_at-stamp.ensures c.edit.ensures c.take_rows.ensures c.put_rows.ensures c.self.invariant.2.ready;
-        remote = edited IndexesRemote m.index.ids m.index.stamps m.rows c.edit.new.self c.args.at c.stamp_at-stamp.result change m.caches.remote.slots c.take_remote.new.remote.slots c.put_remote.new.remote.slots
-            c.self.invariant.1 within c.stamp_at-stamp.ensures c.edit.ensures c.take_remote.ensures c.put_remote.ensures c.self.invariant.2.remote;
-        due = due_edited m.rows c.edit.new.self c.args.at change m.caches.due.keeps c.take_due.new.due.keeps c.put_due.new.due.keeps m.caches.due.slots c.take_due.new.due.slots c.put_due.new.due.slots
-            c.take_due.ensures.keeps c.put_due.ensures.keeps within c.edit.ensures c.take_due.ensures.rows c.put_due.ensures.rows c.self.invariant.2.due;
+        ready = edited IndexesReady m.index.ids m.index.stamps m.rows c.edit.new.self c.args.at c.stamp_at-stamp.result change m.caches.ready.slots c.take_from.new.caches.ready.slots c.put_into.new.caches.ready.slots
+            c.self.invariant.1 within c.stamp_at-stamp.ensures c.edit.ensures c.take_from.ensures.ready c.put_into.ensures.ready c.self.invariant.2.ready;
+        remote = edited IndexesRemote m.index.ids m.index.stamps m.rows c.edit.new.self c.args.at c.stamp_at-stamp.result change m.caches.remote.slots c.take_from.new.caches.remote.slots c.put_into.new.caches.remote.slots
+            c.self.invariant.1 within c.stamp_at-stamp.ensures c.edit.ensures c.take_from.ensures.remote c.put_into.ensures.remote c.self.invariant.2.remote;
+        due = due_edited m.rows c.edit.new.self c.args.at change m.caches.due.keeps c.take_from.new.caches.due.keeps c.put_into.new.caches.due.keeps m.caches.due.slots c.take_from.new.caches.due.slots c.put_into.new.caches.due.slots
+            c.take_from.ensures.keeps c.put_into.ensures.keeps within c.edit.ensures c.take_from.ensures.due c.put_into.ensures.due c.self.invariant.2.due;
       },
     )

@@ -15,11 +15,11 @@ invariant_of-self c =
     let at = c.args.at in
     let m = c.self.inside in
     let within = subst (λ (n : ℕ). at < n) (sym (ap (λ (r : Rows MsgRow). length r.items) c.self.view_is)) c.requires in
-    let ready = taken IndexesReady m.index.ids m.index.stamps m.rows at c.stamp_at-stamp.result m.caches.ready.slots c.take_rows.new.ready.slots
-    c.self.invariant.0 c.self.invariant.1 within c.stamp_at-stamp.ensures c.take_rows.ensures c.self.invariant.2.ready in
-    let remote = taken IndexesRemote m.index.ids m.index.stamps m.rows at c.stamp_at-stamp.result m.caches.remote.slots c.take_remote.new.remote.slots
-    c.self.invariant.0 c.self.invariant.1 within c.stamp_at-stamp.ensures c.take_remote.ensures c.self.invariant.2.remote in
-    let due = subst (λ (k : List KeepRow). IfDue (keeps_in k) (remove m.rows at) c.take_due.new.due.slots) (sym c.take_due.ensures.keeps) (c.take_due.ensures.rows c.self.invariant.2.due) in
+    let ready = taken IndexesReady m.index.ids m.index.stamps m.rows at c.stamp_at-stamp.result m.caches.ready.slots c.take_from.new.caches.ready.slots
+    c.self.invariant.0 c.self.invariant.1 within c.stamp_at-stamp.ensures c.take_from.ensures.ready c.self.invariant.2.ready in
+    let remote = taken IndexesRemote m.index.ids m.index.stamps m.rows at c.stamp_at-stamp.result m.caches.remote.slots c.take_from.new.caches.remote.slots
+    c.self.invariant.0 c.self.invariant.1 within c.stamp_at-stamp.ensures c.take_from.ensures.remote c.self.invariant.2.remote in
+    let due = subst (λ (k : List KeepRow). IfDue (keeps_in k) (remove m.rows at) c.take_from.new.caches.due.slots) (sym c.take_from.ensures.keeps) (c.take_from.ensures.due c.self.invariant.2.due) in
     rw c.keep.ensures (
       rw c.take_out-place.ensures (c.remove.ensures.ids ∙ ap (λ ids. remove ids at) c.self.invariant.0 ∙ ids_removed m.rows at),
       c.remove.ensures.stamped,
