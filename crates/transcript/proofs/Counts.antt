@@ -1,5 +1,5 @@
 -- Of a session that is told of its statements in order a number says which those are.
-use Rattle.std.proofs.Common.{◌≡◌, ◌≢◌, ℕ, ◌+◌, ◌<◌, ◌≤◌, ◌⊎◌, inl, inr, List, Bool, true, false, ◌&&◌, ◌||◌, Option, Some, None, refl, sym, ap, ◌∙◌, arith, length}
+use Rattle.std.proofs.Common.{◌≡◌, ◌≢◌, ℕ, ◌+◌, ◌<◌, ◌≤◌, ◌⊎◌, inl, inr, List, Bool, true, false, ◌&&◌, ◌||◌, Option, Some, None, refl, ap, ◌∙◌, arith, length}
 use Rattle.std.specs.Prelude.{nat_le, nat_lt, ◌==◌, slice_get, slice_set, replicate}
 use Rattle.std.proofs.lemmas.Bool.{cases_lt, false≢true}
 use Rattle.std.proofs.lemmas.Grind.{common_steps}
@@ -13,15 +13,19 @@ use Rattle.transcript.specs.Told.{is_next, is_up_to}
 none_up_to : (n : ℕ) → (nat_lt 0 n && nat_le n 0) ≡ false
 none_up_to n = grind (arith, common_steps)
 
-none_by : (sessions s n : ℕ) → (s < sessions) ⊎ (sessions ≤ s) → is_up_to (slice_get (replicate sessions 0) s) n ≡ false
-none_by sessions s n (inl h) =
-    let within : s < length (replicate sessions 0) = rw (length-replicate sessions 0) h in
-    rw (slice_get-get_or (replicate sessions 0) s 0 within, get_or-replicate sessions s 0 0 h) (none_up_to n)
-none_by sessions s n (inr h) =
-    let past : length (replicate sessions 0) ≤ s = rw (length-replicate sessions 0) h in
-    rw (slice_get_past (replicate sessions 0) s past) refl
+-- a count of nothing for each session
+abbrev pub zeros : ℕ → List ℕ
+zeros sessions = replicate sessions 0
 
-pub none_counted : (sessions s n : ℕ) → is_up_to (slice_get (replicate sessions 0) s) n ≡ false
+none_by : (sessions s n : ℕ) → (s < sessions) ⊎ (sessions ≤ s) → is_up_to (slice_get (zeros sessions) s) n ≡ false
+none_by sessions s n (inl h) =
+    let within : s < length (zeros sessions) = rw (length-replicate {A = ℕ} sessions 0) h in
+    rw (slice_get-get_or (zeros sessions) s 0 within, get_or-replicate {A = ℕ} sessions s 0 0 h) (none_up_to n)
+none_by sessions s n (inr h) =
+    let past : length (zeros sessions) ≤ s = rw (length-replicate {A = ℕ} sessions 0) h in
+    rw (slice_get_past (zeros sessions) s past) refl
+
+pub none_counted : (sessions s n : ℕ) → is_up_to (slice_get (zeros sessions) s) n ≡ false
 none_counted sessions s n = none_by sessions s n (cases_lt s sessions)
 
 -- ---- with one more

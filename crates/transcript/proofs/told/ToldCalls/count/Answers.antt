@@ -8,4 +8,5 @@ set-requires c = next_within c.args.self.now.counts c.args.session c.args.number
 
 pub returns : goal.returns
 returns c = λ s n.
-    goes_on c.args.self.now.counts c.args.session c.args.number s n (contains_by (λ call. (s == call.session) && (n == call.number)) c.args.self.now.others) c.requires
+    rw c.set.ensures
+    (goes_on c.args.self.now.counts c.args.session c.args.number s n (contains_by (λ call. (s == call.session) && (n == call.number)) c.args.self.now.others) c.requires)
