@@ -3,6 +3,7 @@ use Rattle.std.proofs.Common.{◌≡◌, ◌⊎◌, inl, inr, ℕ, zero, suc, �
 use Rattle.std.specs.Prelude.{IfSome, IfOk, IsSome, is_some, min, nat_le, if◌then◌else◌}
 use Rattle.std.proofs.lemmas.Bool.{false≢true, leb-true}
 use Rattle.std.specs.Io.KnownBytes.{Consumes}
+use Rattle.std.proofs.KnownBytes.{Consumes-nil}
 use Rattle.aq_base.specs.Causes.{LastRead, Rose}
 use Rattle.aq_base.specs.declared.stream.Failed.{Failed}
 use Rattle.aq_base.specs.declared.DbId.TheVariants.{Home, Away}
@@ -11,7 +12,7 @@ use Rattle.queue_rows.specs.declared.history.SessionScript.{SessionScript}
 use Rattle.script_text.specs.Script.{lines_of, past_limit, script, then_on, with_lines}
 use Rattle.aq_world.specs.Mounting.{IsDamagedAt}
 use Rattle.aq_run.specs.Disks.{FailsEither, IsFirstDamaged}
-use Rattle.aq_run.specs.Serve.{AnswersBad, AnswersDamaged, CanServe, HasTables, IsRun, IsStopped, ReadsBytes}
+use Rattle.aq_run.specs.Serve.{AnswersBad, AnswersDamaged, CanServe, ConsumesInput, HasTables, IsRun, IsStopped, ReadsBytes}
 use Rattle.aq_run.specs.declared.command.Command.{Command}
 use Rattle.aq_run.specs.declared.command.Command.TheVariants.{Dump, RunSerial}
 
@@ -101,6 +102,10 @@ pub reads_so : {T E I : Type 0} (left : I → Option (List ℕ)) (gives : I → 
     → IfOk r (λ v. length (items v) < 67108865 → LastRead gives new (λ answer. answer ≡ Ok 0)) → IfOk r (λ v. ReadsBytes left gives old new (items v))
 reads_so left gives old new items (Ok v) front rest few whole = record { few = few; front = front; rest = rest; whole = whole }
 reads_so left gives old new items (Err e) front rest few whole = _
+
+-- what is not read is left whole
+pub consumes_none : {I : Type 0} (left : I → Option (List ℕ)) (input : I) → ConsumesInput left input input
+consumes_none left input = ([], omega arith, Consumes-nil (left input))
 
 -- ---- commands
 

@@ -3,6 +3,7 @@ use Rattle.std.specs.Prelude.{◌≡◌, ◌≤◌, ◌<◌, ◌⊎◌, ℕ, ◌
 use Rattle.std.specs.Fmt.{decimal}
 use Rattle.std.specs.Io.KnownBytes.{Appends, Consumes}
 use Rattle.aq_base.specs.Causes.{LastRead, Rose}
+use Rattle.aq_base.specs.Consumed.{ConsumesAtMost}
 use Rattle.aq_base.specs.declared.stream.Failed.{Failed}
 use Rattle.aq_base.specs.declared.DbId.{DbId}
 use Rattle.aq_base.specs.declared.DbId.TheVariants.{Home, Away}
@@ -175,6 +176,10 @@ pub record ReadsBytes {I : Type 0} (left : I → Option (List ℕ)) (gives : I �
   pub front : IfSome (left old) (λ xs. bytes ≡ take 67108865 xs)
   pub rest : Consumes (left old) (left new) bytes
   pub whole : length bytes < 67108865 → LastRead gives new (λ answer. answer ≡ Ok 0)
+
+-- Of a source that tells what is left some first bytes are gone, at most one past the limit of an input. So it is whatever is answered.
+abbrev pub ConsumesInput : {I : Type 0} → (I → Option (List ℕ)) → I → I → Type 0
+ConsumesInput left old new = ConsumesAtMost 67108865 (left old) (left new)
 
 -- the input could not be read, or not kept
 abbrev pub IsUnread : {D C : Type 0} → Outcome D C → Type 0

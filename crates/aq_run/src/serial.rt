@@ -7,7 +7,7 @@ ghost use Rattle.script_text.specs.Readable.{AreReadable};
 ghost use Rattle.script_text.specs.Script.{script, IsFaultOf};
 ghost use Rattle.aq_run.specs.Serve.{empty_history, status_of, AnswersBad, AnswersBytes, AnswersFront};
 ghost use Rattle.aq_run.specs.Serve.{AnswersRun, IsFrontBy, IsReadWhole, IsRun, IsRunBy, IsRunOf, IsStopped};
-ghost use Rattle.aq_run.specs.Serve.{IsUnread, PlaysOver, ReadsBytes};
+ghost use Rattle.aq_run.specs.Serve.{ConsumesInput, IsUnread, PlaysOver, ReadsBytes};
 
 use crate::outcome::Outcome;
 use crate::play::{Played, RunEnd, play};
@@ -129,6 +129,7 @@ fn read_input<I: Source>(alloc: Global, input: &mut I) -> Result<Vec<u8>, ReadFa
     ensures bytes { IfOk result (λ v. ReadsBytes I.left I.read_gives input.old input.new v.items) }
     ensures script { IfOk result (λ v. IfSome (I.left input.old) (λ xs. script v.items ≡ script xs)) }
     ensures failed { IsErrOf result ReadFault.Failed → Rose (I.faults input.old) (I.faults input.new) }
+    ensures consumed { ConsumesInput I.left input.old input.new }
 {
     script_needs_only_the_front();
     read_up_to(alloc, input, INPUT_LIMIT + 1)
@@ -156,6 +157,7 @@ pub fn run_input<I: Source, O: Sink, D: Disk, C: Clock>(
         × AnswersBytes O.taken O.faults out.old out.new D.seen home away result bytes) }
     ensures read_whole { IsReadWhole result.status
         → IfSome (I.left input.old) (λ _. I.left input.new ≡ Some []) }
+    ensures consumed { ConsumesInput I.left input.old input.new }
     ensures untouched { (result.status ≡ 2) ⊎ (result.status ≡ 3)
         → (result.home ≡ home) × (result.away ≡ away) }
     ensures history { IsRun result.status

@@ -9,8 +9,8 @@ ghost use Rattle.script_text.specs.Script.{script};
 ghost use Rattle.aq_world.specs.Mounting.{IsRecovered, KeepsRecovered};
 ghost use Rattle.aq_run.specs.Disks.{FailsEither, FailsNeither, LeavesWhole, SurvivesCall};
 ghost use Rattle.aq_run.specs.Serve.{usage_text, empty_history, AnswersBad, AnswersBytes, AnswersDamaged, AnswersDump, AnswersFront};
-ghost use Rattle.aq_run.specs.Serve.{CanServe, HoldsOf, IsAllDoneAfter, IsReadWhole, IsRun, IsRunOf, IsStatus, IsUnread};
-ghost use Rattle.aq_run.specs.Serve.{ReadsBytes, Tells, WritesFront};
+ghost use Rattle.aq_run.specs.Serve.{CanServe, ConsumesInput, HoldsOf, IsAllDoneAfter, IsReadWhole, IsRun, IsRunOf, IsStatus};
+ghost use Rattle.aq_run.specs.Serve.{IsUnread, ReadsBytes, Tells, WritesFront};
 ghost use Rattle.aq_run.specs.Words.{command_of};
 ghost use Rattle.aq_run.specs.declared.command.Command.TheVariants.{RunSerial, Dump};
 
@@ -53,6 +53,7 @@ pub fn serve<I: Source, O: Sink, D: Disk, C: Clock>(
         × AnswersBytes O.taken O.faults out.old out.new D.seen home away result bytes) }
     ensures read_whole { command_of words.now ≡ Some RunSerial → IsReadWhole result.status
         → IfSome (I.left input.old) (λ _. I.left input.new ≡ Some []) }
+    ensures consumed { ConsumesInput I.left input.old input.new }
     ensures damaged { result.status ≡ 6
         → AnswersDamaged O.taken O.faults out.old out.new D.seen home away }
     ensures recovered { IsRun result.status → IsRecovered D.seen home × IsRecovered D.seen away }

@@ -2,7 +2,7 @@ use Rattle.std.proofs.Common.{inr, subst, List, ℕ, rules, arith}
 use Rattle.aq_run.specs.Words.{command_of}
 use Rattle.aq_run.specs.Serve.{Tells}
 use Rattle.aq_run.proofs.Answering.{quiet_tells}
-use Rattle.aq_run.proofs.Completing.{complete_so, run_known, dump_known, dump_none, none_asked, not_dump, not_none}
+use Rattle.aq_run.proofs.Completing.{complete_so, run_known, dump_known, dump_none, none_asked, not_dump, not_none, consumes_none}
 use Rattle.aq_run.proofs.top.serve.Goals as goal
 
 pub returns-in-None-clause-usage_text : goal.returns-in-None-clause-usage_text
@@ -35,3 +35,9 @@ returns-in-Some-Dump-clause-bytes g c = λ is. not_dump (command_of c.args.words
 
 pub returns-in-None-clause-bytes : goal.returns-in-None-clause-bytes
 returns-in-None-clause-bytes g c = λ is. not_none (command_of c.args.words.now) (search rules) is
+
+pub returns-in-Some-Dump-clause-consumed : goal.returns-in-Some-Dump-clause-consumed
+returns-in-Some-Dump-clause-consumed g c = consumes_none g.I.Source.left c.args.input.now
+
+pub returns-in-None-clause-consumed : goal.returns-in-None-clause-consumed
+returns-in-None-clause-consumed g c = consumes_none g.I.Source.left c.args.input.now
