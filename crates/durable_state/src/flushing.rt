@@ -1,7 +1,7 @@
 // The steps of a run that make its commits durable. They take no memory.
-ghost use Rattle.std.specs.Prelude.{◌≡◌, IsSome, OnOk, OnErr};
+ghost use Rattle.std.specs.Prelude.{◌≡◌, IsOk, IsSome, OnOk, OnErr};
 ghost use Rattle.queue_rows.specs.Turns.{flushed, told};
-ghost use Rattle.session_registry.specs.Sessions.{OfSession};
+ghost use Rattle.session_registry.specs.Sessions.{IsAbsent, OfSession};
 ghost use Rattle.durable_state.specs.Going.{AddsEntries, Goes};
 ghost use Rattle.durable_state.specs.Held.{HasFailed};
 
@@ -38,6 +38,7 @@ impl<D: Disk> DurableState<D> {
         requires { OfSession at self.old.world (λ s. IsSome s.untold) }
         ensures ok { OnOk result (OfSession at self.old.world (λ s.
             self.new.world ≡ told at s number self.old.world)) }
+        ensures absent { IsAbsent at self.old.world → IsOk result × (self.new ≡ self.old) }
         ensures err { OnErr result (self.new.world ≡ self.old.world) }
         ensures adds { AddsEntries at self.old self.new }
         ensures disks { Goes D.seen D.is_image D.calls D.faults self.old self.new }

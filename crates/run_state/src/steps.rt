@@ -273,7 +273,8 @@ impl RunState {
     /// memory.
     pub fn tell(&mut self, at: u32, number: u32)
         requires { OfSession at self.old (λ s. IsSome s.untold) }
-        ensures { OfSession at self.old (λ s. self.new ≡ told at s number self.old) }
+        ensures told { OfSession at self.old (λ s. self.new ≡ told at s number self.old) }
+        ensures absent { IsAbsent at self.old → self.new ≡ self.old }
     {
         let Some(_) = self.registry.get(at) else {
             return;

@@ -2,6 +2,7 @@ use Rattle.std.proofs.Common.{refl, ◌≡◌, Some, sym, ap, ◌∙◌, subst, 
 use Rattle.std.specs.Prelude.{option_copied, option_map, slice_get}
 use Rattle.queue_rows.specs.Turns.{flushed}
 use Rattle.session_registry.specs.Sessions.{session_of, unmarked}
+use Rattle.run_state.proofs.Calls.{not_absent}
 use Rattle.durable_state.specs.Going.{AddsEntries, Goes, goes_on}
 use Rattle.durable_state.specs.Held.{Held, HasFailed}
 use Rattle.durable_state.proofs.Growing.{adds_on, adds_same}
@@ -25,7 +26,7 @@ pass-requires g c =
     let is : option_map session_of (Some c.in-Some.field-0.now) ≡ option_map unmarked (slice_get c.self.inside.state.sessions c.args.at) = sym (ap (λ o. option_map session_of (option_copied o)) c.in-Some.is) ∙ c.session.ensures in
     let there = session_behind c.args.at c.self.inside.state w c.in-Some.field-0.now now is in
     let owed = owed_behind c.args.at c.args.self.now.world w behind c.requires in
-    let takes = told_takes c.args.at c.args.number w v c.in-Some.field-0.now there owed c.tell.ensures in
+    let takes = told_takes c.args.at c.args.number w v c.in-Some.field-0.now there owed c.tell.ensures.told in
     let room = c.self-2.invariant.room in
     omega (arith, takes, room)
 
@@ -38,10 +39,10 @@ invariant_of-self g c =
     let is : option_map session_of (Some c.in-Some.field-0.now) ≡ option_map unmarked (slice_get c.self.inside.state.sessions c.args.at) = sym (ap (λ o. option_map session_of (option_copied o)) c.in-Some.is) ∙ c.session.ensures in
     let there = session_behind c.args.at c.self.inside.state w c.in-Some.field-0.now now is in
     let owed = owed_behind c.args.at c.args.self.now.world w behind c.requires in
-    let takes = told_takes c.args.at c.args.number w v c.in-Some.field-0.now there owed c.tell.ensures in
+    let takes = told_takes c.args.at c.args.number w v c.in-Some.field-0.now there owed c.tell.ensures.told in
     let still = still_flushed c.args.at c.self.inside.state w now in
     let f = follows_passed g.D.Disk.seen g.D.Disk.is_image g.D.Disk.calls g.D.Disk.faults c.args.at w v c.self-2.inside.logs c.pass.new.self c.self-2.invariant.few c.self-2.invariant.brief c.self-2.invariant.room takes c.pass.ensures.capacity
-    (c.pass.ensures.enters w.moment) (told_adds c.args.at c.args.number w v c.in-Some.field-0.now there still c.tell.ensures) in
+    (c.pass.ensures.enters w.moment) (told_adds c.args.at c.args.number w v c.in-Some.field-0.now there still c.tell.ensures.told) in
     record { few = f.few; room = f.room; brief = f.brief }
 
 pub returns-clause-ok : goal.returns-clause-ok
@@ -50,7 +51,7 @@ returns-clause-ok g c =
     let v = c.tell.new.self in
     let now = flushed_behind c.args.at c.self.inside.state c.args.self.now.world c.flush.new.self.world w (ap (λ (o : Held _). o.world) c.self.view_is) (ap (λ (o : Held _). o.world) c.self-2.view_is) c.in_ok-flush.ensures.ok in
     let behind = now ∙ ap (λ (o : Held _). flushed c.args.at o.world) c.self.view_is in
-    told_on c.args.at c.args.number c.args.self.now.world w v behind c.tell.ensures
+    told_on c.args.at c.args.number c.args.self.now.world w v behind c.tell.ensures.told
 
 pub returns-clause-disks : goal.returns-clause-disks
 returns-clause-disks g c =
@@ -61,10 +62,10 @@ returns-clause-disks g c =
     let is : option_map session_of (Some c.in-Some.field-0.now) ≡ option_map unmarked (slice_get c.self.inside.state.sessions c.args.at) = sym (ap (λ o. option_map session_of (option_copied o)) c.in-Some.is) ∙ c.session.ensures in
     let there = session_behind c.args.at c.self.inside.state w c.in-Some.field-0.now now is in
     let owed = owed_behind c.args.at c.args.self.now.world w behind c.requires in
-    let takes = told_takes c.args.at c.args.number w v c.in-Some.field-0.now there owed c.tell.ensures in
+    let takes = told_takes c.args.at c.args.number w v c.in-Some.field-0.now there owed c.tell.ensures.told in
     let still = still_flushed c.args.at c.self.inside.state w now in
     let f = follows_passed g.D.Disk.seen g.D.Disk.is_image g.D.Disk.calls g.D.Disk.faults c.args.at w v c.self-2.inside.logs c.pass.new.self c.self-2.invariant.few c.self-2.invariant.brief c.self-2.invariant.room takes c.pass.ensures.capacity
-    (c.pass.ensures.enters w.moment) (told_adds c.args.at c.args.number w v c.in-Some.field-0.now there still c.tell.ensures) in
+    (c.pass.ensures.enters w.moment) (told_adds c.args.at c.args.number w v c.in-Some.field-0.now there still c.tell.ensures.told) in
     goes_on g.D.Disk.seen g.D.Disk.is_image g.D.Disk.calls g.D.Disk.faults c.args.self.now c.flush.new.self (held_of v c.pass.new.self) c.flush.ensures.disks
     (subst (λ (o : Held _). Goes g.D.Disk.seen g.D.Disk.is_image g.D.Disk.calls g.D.Disk.faults o (held_of v c.pass.new.self)) c.self-2.view_is f.goes)
 
@@ -77,10 +78,10 @@ returns-clause-adds g c =
     let is : option_map session_of (Some c.in-Some.field-0.now) ≡ option_map unmarked (slice_get c.self.inside.state.sessions c.args.at) = sym (ap (λ o. option_map session_of (option_copied o)) c.in-Some.is) ∙ c.session.ensures in
     let there = session_behind c.args.at c.self.inside.state w c.in-Some.field-0.now now is in
     let owed = owed_behind c.args.at c.args.self.now.world w behind c.requires in
-    let takes = told_takes c.args.at c.args.number w v c.in-Some.field-0.now there owed c.tell.ensures in
+    let takes = told_takes c.args.at c.args.number w v c.in-Some.field-0.now there owed c.tell.ensures.told in
     let still = still_flushed c.args.at c.self.inside.state w now in
     let f = follows_passed g.D.Disk.seen g.D.Disk.is_image g.D.Disk.calls g.D.Disk.faults c.args.at w v c.self-2.inside.logs c.pass.new.self c.self-2.invariant.few c.self-2.invariant.brief c.self-2.invariant.room takes c.pass.ensures.capacity
-    (c.pass.ensures.enters w.moment) (told_adds c.args.at c.args.number w v c.in-Some.field-0.now there still c.tell.ensures) in
+    (c.pass.ensures.enters w.moment) (told_adds c.args.at c.args.number w v c.in-Some.field-0.now there still c.tell.ensures.told) in
     adds_on c.args.self.now c.flush.new.self (held_of v c.pass.new.self) c.flush.ensures.adds
     (subst (λ (o : Held _). AddsEntries c.args.at o (held_of v c.pass.new.self)) c.self-2.view_is f.adds)
 
@@ -93,11 +94,21 @@ returns-clause-fine g c failed =
     let is : option_map session_of (Some c.in-Some.field-0.now) ≡ option_map unmarked (slice_get c.self.inside.state.sessions c.args.at) = sym (ap (λ o. option_map session_of (option_copied o)) c.in-Some.is) ∙ c.session.ensures in
     let there = session_behind c.args.at c.self.inside.state w c.in-Some.field-0.now now is in
     let owed = owed_behind c.args.at c.args.self.now.world w behind c.requires in
-    let takes = told_takes c.args.at c.args.number w v c.in-Some.field-0.now there owed c.tell.ensures in
+    let takes = told_takes c.args.at c.args.number w v c.in-Some.field-0.now there owed c.tell.ensures.told in
     let still = still_flushed c.args.at c.self.inside.state w now in
     let f = follows_passed g.D.Disk.seen g.D.Disk.is_image g.D.Disk.calls g.D.Disk.faults c.args.at w v c.self-2.inside.logs c.pass.new.self c.self-2.invariant.few c.self-2.invariant.brief c.self-2.invariant.room takes c.pass.ensures.capacity
-    (c.pass.ensures.enters w.moment) (told_adds c.args.at c.args.number w v c.in-Some.field-0.now there still c.tell.ensures) in
+    (c.pass.ensures.enters w.moment) (told_adds c.args.at c.args.number w v c.in-Some.field-0.now there still c.tell.ensures.told) in
     absurd (c.in_ok-flush.ensures.unfailed (subst (λ (o : Held _). HasFailed o) c.self-2.view_is (f.fine failed)))
 
 pub returns-in_default-clause-adds : goal.returns-in_default-clause-adds
 returns-in_default-clause-adds g c = adds_same _ _ refl
+
+pub returns-clause-absent : goal.returns-clause-absent
+returns-clause-absent g c absent =
+    let is : option_map session_of (Some c.in-Some.field-0.now) ≡ option_map unmarked (slice_get c.self.inside.state.sessions c.args.at) = sym (ap (λ o. option_map session_of (option_copied o)) c.in-Some.is) ∙ c.session.ensures in
+    not_absent _ _ c.args.at c.in-Some.field-0.now (ap (λ (o : Held _). o.world) c.self.view_is) is absent
+
+pub returns-in_err-flush-clause-absent : goal.returns-in_err-flush-clause-absent
+returns-in_err-flush-clause-absent g c absent =
+    let is : option_map session_of (Some c.in-Some.field-0.now) ≡ option_map unmarked (slice_get c.self.inside.state.sessions c.args.at) = sym (ap (λ o. option_map session_of (option_copied o)) c.in-Some.is) ∙ c.session.ensures in
+    not_absent _ _ c.args.at c.in-Some.field-0.now (ap (λ (o : Held _). o.world) c.self.view_is) is absent

@@ -11,7 +11,7 @@ use Rattle.session_registry.specs.Sessions.{changed_at, after_reply, session_of,
 use Rattle.session_registry.proofs.Results.{if_some, of_some}
 use Rattle.run_state.proofs.Promises.{owed_told}
 use Rattle.run_state.proofs.Putting.{run_of, counted_more, no_calls, noted_by}
-use Rattle.run_state.proofs.Calls.{session_there, sessions-flushed, told_is}
+use Rattle.run_state.proofs.Calls.{session_there, sessions-flushed, told_is, not_absent}
 use Rattle.run_state.proofs.state.RunState.tell.Goals as goal
 
 pub push-requires : goal.push-requires
@@ -48,8 +48,8 @@ invariant_of-self c =
       room = omega (arith, one, room, more, told, most);
     }
 
-pub returns : goal.returns
-returns c =
+pub returns-clause-told : goal.returns-clause-told
+returns-clause-told c =
     let q = c.self-2.inside in
     let u = run_of q.home q.away q.scripts q.registry.sessions (option_map transit_of q.transit) q.opening q.moment q.readings q.entries.items in
     let at = c.args.at in
@@ -61,3 +61,8 @@ returns c =
     let changed = ap (λ ss. record y { sessions = ss }) c.tell.ensures
     ∙ ap (λ (v : World). record v { sessions = changed_at at after_reply v.sessions }) (noted ∙ ap (λ (v : World). stepped at v [] [] (Told c.args.number)) (c.self-2.view_is ∙ c.flush.ensures)) in
     if_some _ (λ s there. changed ∙ told_is at c.args.number s c.args.self.now there)
+
+pub returns-clause-absent : goal.returns-clause-absent
+returns-clause-absent c absent =
+    let is : option_map session_of (Some c.in-Some.field-0.now) ≡ option_map unmarked (slice_get c.self.inside.registry.sessions c.args.at) = sym (ap (λ o. option_map session_of (option_copied o)) c.in-Some.is) ∙ c.get.ensures in
+    not_absent _ _ c.args.at c.in-Some.field-0.now c.self.view_is is absent
