@@ -1,8 +1,8 @@
 // The sessions of a script, as its lines make them one after the other.
-ghost use Rattle.std.specs.Prelude.{◌≡◌, ◌≤◌, ◌<◌, [], true, is_some, map, length, slice_get, slice_set, IfSome, OnOk, OnErr, IsErrOf, Some, None};
+ghost use Rattle.std.specs.Prelude.{◌≡◌, ◌≤◌, ◌<◌, [], true, is_some, map, length, slice_get, slice_set, IfNone, IfSome, OnOk, OnErr, IsErrOf, Some, None};
 ghost use Rattle.std.specs.List.{list_any};
 ghost use Rattle.std.specs.Str.{bytes_eq};
-ghost use Rattle.queue_rows.specs.Within.{is_session_name};
+ghost use Rattle.queue_rows.specs.Within.{is_session_name, statement_count};
 ghost use Rattle.script_text.specs.Readable.{IsReadable, IsReadableLine, AreReadable};
 ghost use Rattle.script_text.specs.Script.{number_of, with_session, with_statement, with_statement_at, with_statement_of, with_line, with_bytes};
 
@@ -127,21 +127,41 @@ impl Sessions {
         Ok(())
     }
 
+    // The number of the session of a name, where the script may have one more statement.
+    fn place_for(&self, name: &Name) -> Option<usize>
+        ensures place { IfSome result (λ at. number_of name.now self.now ≡ Some at) }
+        ensures room { IfSome result (λ _. statement_count self.now < 1000000) }
+        ensures within { IfSome result (λ at. at < length self.now) }
+        ensures none { IfNone result (statement_count self.now < 1000000 → number_of name.now self.now ≡ None) }
+    {
+        if self.asked >= STATEMENT_LIMIT {
+            return None;
+        }
+        self.number_of(name)
+    }
+
+    fn put(&mut self, at: usize, statement: Statement) -> Result<(), AllocError>
+        requires within { at < length self.old }
+        requires room { statement_count self.old < 1000000 }
+        requires readable { IsReadable statement }
+        ensures ok { OnOk result (self.new ≡ with_statement_at statement self.old at) }
+    {
+        push_statement_at(&mut self.list, at, statement)?;
+        self.asked += 1;
+        Ok(())
+    }
+
+    // It lets the statement go at one exit alone: at each, all that a statement may hold is followed anew.
     fn ask(&mut self, name: &Name, statement: Statement) -> Result<(), LineFault>
         requires { IsReadable statement }
         ensures ok { OnOk result (with_statement_of name.now statement self.old ≡ Some self.new) }
         ensures bad { IsErrOf result LineFault.Bad
             → with_statement_of name.now statement self.old ≡ None }
     {
-        if self.asked >= STATEMENT_LIMIT {
-            return Err(LineFault::Bad);
-        }
-        let Some(at) = self.number_of(name) else {
+        let Some(at) = self.place_for(name) else {
             return Err(LineFault::Bad);
         };
-        push_statement_at(&mut self.list, at, statement)?;
-        self.asked += 1;
-        Ok(())
+        Ok(self.put(at, statement)?)
     }
 
     fn add(&mut self, line: Line) -> Result<(), LineFault>
