@@ -259,7 +259,8 @@ impl<D: Disk> World<D, StepClock> {
 
         // Where nothing is mounted the clock is one that counts from 0, and nothing of it was read.
         ensures unread { IfErr result (λ e. ⟦<StepClock as Clock>⟧.given e.clock ≡ Some []) }
-        ensures from_0 { IfErr result (λ e. ⟦<StepClock as Clock>⟧.plan e.clock ≡ Some (step_reading 0)) }
+        ensures from_0 { IfErr result (λ e.
+            ⟦<StepClock as Clock>⟧.plan e.clock ≡ Some (step_reading 0)) }
     {
         match open(alloc, home, away, scripts) {
             Ok(state) => {

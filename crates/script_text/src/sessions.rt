@@ -132,7 +132,8 @@ impl Sessions {
         ensures place { IfSome result (λ at. number_of name.now self.now ≡ Some at) }
         ensures room { IfSome result (λ _. statement_count self.now < 1000000) }
         ensures within { IfSome result (λ at. at < length self.now) }
-        ensures none { IfNone result (statement_count self.now < 1000000 → number_of name.now self.now ≡ None) }
+        ensures none { IfNone result
+            (statement_count self.now < 1000000 → number_of name.now self.now ≡ None) }
     {
         if self.asked >= STATEMENT_LIMIT {
             return None;
