@@ -71,11 +71,20 @@ fn advance_in(many: &mut HashMap<u64, Outcome>, id: u64, change: &Change) -> Res
 
 /// The messages that changes name, each once, in the order in which they are first named, and the outcome of each. A
 /// few take no map.
-#[derive(Drop)]
 pub(crate) struct Outcomes {
     names: SmallVec<u64, FEW>,
     few: SmallList<Outcome>,
     many: HashMap<u64, Outcome>,
+}
+
+impl Drop for Outcomes {
+    fn drop(self) {
+        let Self {
+            names: _,
+            few: _,
+            many: _,
+        } = self;
+    }
 }
 
 impl Outcomes {

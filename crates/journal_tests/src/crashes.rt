@@ -27,10 +27,15 @@ const FILLS: [Fill; 5] = [
 ];
 
 // A disk, and how many of its calls were made when each step was answered.
-#[derive(Drop)]
 struct Ran {
     disk: MemoryDisk,
     ends: Vec<u64>,
+}
+
+impl Drop for Ran {
+    fn drop(self) {
+        let Self { disk: _, ends: _ } = self;
+    }
 }
 
 // The disk with its journal written anew, and whether that was done.

@@ -8,7 +8,6 @@ use crate::remote_cache::RemoteCache;
 use std::alloc::Global;
 
 /// The indexes of ready slots, of those that go to the other database, and of what is due, each where it is kept.
-#[derive(Drop)]
 pub(crate) struct Caches {
     /// The index of ready slots.
     pub(crate) ready: ReadyCache,
@@ -16,6 +15,16 @@ pub(crate) struct Caches {
     pub(crate) remote: RemoteCache,
     /// The index of what is due.
     pub(crate) due: DueCache,
+}
+
+impl Drop for Caches {
+    fn drop(self) {
+        let Self {
+            ready: _,
+            remote: _,
+            due: _,
+        } = self;
+    }
 }
 
 impl Caches {

@@ -27,12 +27,17 @@ pub(crate) struct KeepRow {
 }
 
 /// The index, where it is kept, with the queues that keep messages. Among its rows are those of the messages that it stands beside.
-#[derive(Drop)]
 pub(crate) struct DueCache {
     /// The index.
     pub(crate) slots: Option<DueSlots>,
     /// For how long queues keep messages: those that are not here keep none.
     pub(crate) keeps: List<KeepRow>,
+}
+
+impl Drop for DueCache {
+    fn drop(self) {
+        let Self { slots: _, keeps: _ } = self;
+    }
 }
 
 fn keep_row<'a>(keeps: &'a List<KeepRow>, queue: &Name) -> Option<&'a KeepRow>

@@ -35,7 +35,6 @@ pub(crate) struct Retry {
 }
 
 /// The message stands in another queue, with slot 0 behind its slots, where the memory is enough for those.
-#[derive(Drop)]
 pub(crate) struct MoveTo {
     /// The queue.
     pub(crate) queue: Name,
@@ -43,6 +42,16 @@ pub(crate) struct MoveTo {
     pub(crate) at: u64,
     /// The memory.
     pub(crate) room: RowRoom<SlotRow>,
+}
+
+impl Drop for MoveTo {
+    fn drop(self) {
+        let Self {
+            queue: _,
+            at: _,
+            room: _,
+        } = self;
+    }
 }
 
 impl Edit<MsgRow> for SetState {

@@ -24,10 +24,18 @@ use std::marker::Model;
 
 /// The tables of a database, an index of their messages by their numbers, and the memory that a commit was prepared with. Contracts
 /// see the tables, that memory, and the stamps of the messages.
-#[derive(Drop)]
 pub(crate) struct KeptTables {
     tables: Tables,
     beside: Beside,
+}
+
+impl Drop for KeptTables {
+    fn drop(self) {
+        let Self {
+            tables: _,
+            beside: _,
+        } = self;
+    }
 }
 
 impl Model for KeptTables {
@@ -121,7 +129,8 @@ impl KeptTables {
         ensures held { held result ≡ self.tables }
         ensures room { room_of result ≡ self.room }
     {
-        OpenTables::of(self.tables, self.beside, caches)
+        let Self { tables, beside } = self;
+        OpenTables::of(tables, beside, caches)
     }
 
     /// The tables, closed again, and the indexes of their messages. It takes no memory.

@@ -25,7 +25,6 @@ enum Place {
 /// Where messages stand in a list, by their ids, with places for more messages. Contracts see the ids in the order of the
 /// list, and for how many more there is memory. An id is found, put last and taken out in about as many steps as their number has binary
 /// digits.
-#[derive(Drop)]
 pub(crate) struct MessageIndex {
     entries: Tree<Entry>,
     spares: RowPlaces<Entry>,
@@ -33,6 +32,19 @@ pub(crate) struct MessageIndex {
     places: HashMap<u64, Place>,
     next: u64,
     room: usize,
+}
+
+impl Drop for MessageIndex {
+    fn drop(self) {
+        let Self {
+            entries: _,
+            spares: _,
+            rows: _,
+            places: _,
+            next: _,
+            room: _,
+        } = self;
+    }
 }
 
 impl Model for MessageIndex {

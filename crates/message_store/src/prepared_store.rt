@@ -26,12 +26,21 @@ use std::sync::ledger::Ledger;
 
 /// The tables of a database, indexes of their messages by their numbers, by their ready slots, by those that go to the other database
 /// and by what is due, and the memory that a commit was prepared with. Contracts see the tables of the definitions, and that memory.
-#[derive(Drop)]
 pub struct PreparedStore {
     kept: KeptTables,
     caches: Caches,
     /// Whether queues may keep messages for another time than the index of what is due was made for.
     is_stale: bool,
+}
+
+impl Drop for PreparedStore {
+    fn drop(self) {
+        let Self {
+            kept: _,
+            caches: _,
+            is_stale: _,
+        } = self;
+    }
 }
 
 impl Model for PreparedStore {

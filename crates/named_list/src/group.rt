@@ -10,12 +10,17 @@ use row_tree::{Bound, InOrder, Ordered};
 use std::cmp::Ordering;
 
 /// The stamps of a name.
-#[derive(Drop)]
 pub(crate) struct Group {
     /// The name.
     pub(crate) name: Name,
     /// Its stamps.
     pub(crate) stamps: Ordered<Stamp>,
+}
+
+impl Drop for Group {
+    fn drop(self) {
+        let Self { name: _, stamps: _ } = self;
+    }
 }
 
 /// The group of a name.

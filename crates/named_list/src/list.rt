@@ -13,10 +13,15 @@ use std::marker::Model;
 
 /// A list whose items have names, which contracts see as the list of its items. An item is found by its name, put last, changed
 /// and taken out in about as many steps as the number of items has binary digits.
-#[derive(Drop)]
 pub struct NamedList<T: Named> {
     items: Tree<T>,
     index: Option<NameIndex>,
+}
+
+impl<T: Named + Drop> Drop for NamedList<T> {
+    fn drop(self) {
+        let Self { items: _, index: _ } = self;
+    }
 }
 
 impl<T: Named> Model for NamedList<T> {

@@ -9,12 +9,18 @@ use serde_json::Value;
 use std::alloc::{AllocError, Global};
 
 /// A property of a message.
-#[derive(Debug, PartialEq, Eq, Drop)]
+#[derive(Debug, PartialEq, Eq)]
 pub struct Prop {
     /// Its name, which no other property of the message has.
     pub name: Name,
     /// Its value, which is neither null nor an empty text.
     pub value: Datum,
+}
+
+impl Drop for Prop {
+    fn drop(self) {
+        let Self { name: _, value: _ } = self;
+    }
 }
 
 /// Why a JSON value was not read as properties.

@@ -59,10 +59,18 @@ impl InlineText {
     }
 }
 
-#[derive(Drop)]
 enum Storage {
     Inline(InlineText),
     OnHeap(Shared<String>),
+}
+
+impl Drop for Storage {
+    fn drop(self) {
+        match self {
+            Self::Inline(_) => {}
+            Self::OnHeap(_) => {}
+        }
+    }
 }
 
 /// The bytes of a text, which contracts see. A copy takes no memory.

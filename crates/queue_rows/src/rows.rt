@@ -10,7 +10,6 @@ use rule_conditions::{Cond, Facts};
 use std::alloc::AllocError;
 
 /// A queue table: what the messages of its queues have, and how they are ordered.
-#[derive(Drop)]
 pub struct TableRow {
     /// Its name.
     pub name: Name,
@@ -24,6 +23,18 @@ pub struct TableRow {
     pub grouped: bool,
 }
 
+impl Drop for TableRow {
+    fn drop(self) {
+        let Self {
+            name: _,
+            fields: _,
+            columns: _,
+            multi: _,
+            grouped: _,
+        } = self;
+    }
+}
+
 /// What a queue is for.
 #[derive(Clone, Copy, Debug, PartialEq, Eq)]
 pub enum QueueKind {
@@ -34,7 +45,6 @@ pub enum QueueKind {
 }
 
 /// A queue.
-#[derive(Drop)]
 pub struct QueueRow {
     /// Its name.
     pub name: Name,
@@ -56,8 +66,23 @@ pub struct QueueRow {
     pub lowest: i64,
 }
 
+impl Drop for QueueRow {
+    fn drop(self) {
+        let Self {
+            name: _,
+            table: _,
+            kind: _,
+            enqueue: _,
+            dequeue: _,
+            max_retries: _,
+            retry_delay: _,
+            retention: _,
+            lowest: _,
+        } = self;
+    }
+}
+
 /// A subscriber of a queue.
-#[derive(Drop)]
 pub struct SubRow {
     /// The queue.
     pub queue: Name,
@@ -67,6 +92,17 @@ pub struct SubRow {
     pub address: Option<Name>,
     /// The rule by which messages are chosen for it; without one it gets all.
     pub rule: Option<Cond>,
+}
+
+impl Drop for SubRow {
+    fn drop(self) {
+        let Self {
+            queue: _,
+            name: _,
+            address: _,
+            rule: _,
+        } = self;
+    }
 }
 
 /// What a subscriber is found by.
@@ -79,7 +115,6 @@ pub struct SubKey<'a> {
 }
 
 /// A schedule of the propagation from a queue to a queue of the other database.
-#[derive(Drop)]
 pub struct ScheduleRow {
     /// The queue.
     pub queue: Name,
@@ -101,8 +136,23 @@ pub struct ScheduleRow {
     pub next: u64,
 }
 
+impl Drop for ScheduleRow {
+    fn drop(self) {
+        let Self {
+            queue: _,
+            to: _,
+            enabled: _,
+            start: _,
+            duration: _,
+            period: _,
+            latency: _,
+            failures: _,
+            next: _,
+        } = self;
+    }
+}
+
 /// A message.
-#[derive(Drop)]
 pub struct MsgRow {
     /// Its number, which no other message of the database has had.
     pub id: u64,
@@ -124,8 +174,23 @@ pub struct MsgRow {
     pub slots: List<SlotRow>,
 }
 
+impl Drop for MsgRow {
+    fn drop(self) {
+        let Self {
+            id: _,
+            queue: _,
+            place: _,
+            facts: _,
+            exception: _,
+            enq: _,
+            group: _,
+            moved: _,
+            slots: _,
+        } = self;
+    }
+}
+
 /// A recipient of a message, and how far it has come there.
-#[derive(Drop)]
 pub struct SlotRow {
     /// The recipient's name; none in a queue with one consumer.
     pub name: Option<Name>,
@@ -139,6 +204,19 @@ pub struct SlotRow {
     pub at: u64,
     /// The moment at which it expires, where it does.
     pub expires: Option<u64>,
+}
+
+impl Drop for SlotRow {
+    fn drop(self) {
+        let Self {
+            name: _,
+            address: _,
+            state: _,
+            retries: _,
+            at: _,
+            expires: _,
+        } = self;
+    }
 }
 
 /// How far a slot has come.

@@ -19,7 +19,6 @@ pub enum Pending {
 }
 
 /// For whom a message is: a name, none in a queue with one consumer, and where it goes, where it is not local.
-#[derive(Drop)]
 pub struct Agent {
     /// The name.
     pub name: Option<Name>,
@@ -27,8 +26,16 @@ pub struct Agent {
     pub address: Option<Name>,
 }
 
+impl Drop for Agent {
+    fn drop(self) {
+        let Self {
+            name: _,
+            address: _,
+        } = self;
+    }
+}
+
 /// Where a session stands in a queue: at the last message that it was given there.
-#[derive(Drop)]
 pub struct Position {
     /// The queue.
     pub queue: Name,
@@ -38,6 +45,17 @@ pub struct Position {
     pub place: Place,
     /// The message's group.
     pub group: u64,
+}
+
+impl Drop for Position {
+    fn drop(self) {
+        let Self {
+            queue: _,
+            consumer: _,
+            place: _,
+            group: _,
+        } = self;
+    }
 }
 
 impl Copied for Position {

@@ -27,7 +27,6 @@ pub enum JournalFault {
 }
 
 /// A journal on a disk. Bodies are queued, and then written as one frame.
-#[derive(Drop)]
 pub struct Journal<D: Disk> {
     disk: D,
     alloc: Global,
@@ -40,6 +39,23 @@ pub struct Journal<D: Disk> {
     written: Vec<Vec<u8>>,
     room: Vec<u8>,
     needed: usize,
+}
+
+impl<D: Disk + Drop> Drop for Journal<D> {
+    fn drop(self) {
+        let Self {
+            disk: _,
+            alloc: _,
+            version: _,
+            active: _,
+            count: _,
+            failed_at: _,
+            queued: _,
+            written: _,
+            room: _,
+            needed: _,
+        } = self;
+    }
 }
 
 impl<D: Disk> Model for Journal<D> {
@@ -151,7 +167,19 @@ impl<D: Disk> Journal<D> {
     pub fn into_disk(self) -> D
         ensures { result ≡ self.disk }
     {
-        self.disk
+        let Self {
+            disk,
+            alloc: _,
+            version: _,
+            active: _,
+            count: _,
+            failed_at: _,
+            queued: _,
+            written: _,
+            room: _,
+            needed: _,
+        } = self;
+        disk
     }
 
     /// The version of the active area.

@@ -34,10 +34,18 @@ pub(crate) struct GroupRef<'a> {
 
 /// The index of the marks of all sessions by their groups. Where the marks of a class have the same names, a group of the
 /// class is held by the session that its key tells.
-#[derive(Drop)]
 pub(crate) struct GroupIndex {
     classes: ClassIndex,
     holds: GroupHolds,
+}
+
+impl Drop for GroupIndex {
+    fn drop(self) {
+        let Self {
+            classes: _,
+            holds: _,
+        } = self;
+    }
 }
 
 /// The key of a group.

@@ -21,13 +21,24 @@ use std::marker::Model;
 
 /// The marks of all sessions, with room for more. Contracts see a list of marks and a number of reserved places for each
 /// session, at the session's number. No two sessions have marks on one slot, or in one group.
-#[derive(Drop)]
 pub struct RowLocks {
     sessions: Vec<SessionTable>,
     slots: SlotIndex,
     groups: GroupIndex,
     spare: usize,
     alloc: Global,
+}
+
+impl Drop for RowLocks {
+    fn drop(self) {
+        let Self {
+            sessions: _,
+            slots: _,
+            groups: _,
+            spare: _,
+            alloc: _,
+        } = self;
+    }
 }
 
 impl Model for RowLocks {

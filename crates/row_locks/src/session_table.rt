@@ -15,12 +15,22 @@ use std::mem;
 
 /// The marks of one session in the order taken, with room for more. A mark stays at its place until all are freed, and its
 /// rank in the index by group, where that has it, stands at the same place.
-#[derive(Drop)]
 pub(crate) struct SessionTable {
     entries: Vec<Option<Mark>>,
     ranks: Vec<Option<usize>>,
     room: Vec<Mark>,
     spare: usize,
+}
+
+impl Drop for SessionTable {
+    fn drop(self) {
+        let Self {
+            entries: _,
+            ranks: _,
+            room: _,
+            spare: _,
+        } = self;
+    }
 }
 
 impl Model for SessionTable {

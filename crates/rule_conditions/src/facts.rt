@@ -3,7 +3,6 @@ use payload_records::{Copied, List, Prop, Record, Text};
 use std::alloc::AllocError;
 
 /// What a condition may ask of a message.
-#[derive(Drop)]
 pub struct Facts {
     /// The message's priority; a smaller number is the more urgent.
     pub priority: i64,
@@ -13,6 +12,17 @@ pub struct Facts {
     pub cells: Record,
     /// The properties, in byte order of their distinct names.
     pub props: List<Prop>,
+}
+
+impl Drop for Facts {
+    fn drop(self) {
+        let Self {
+            priority: _,
+            corr: _,
+            cells: _,
+            props: _,
+        } = self;
+    }
 }
 
 impl Copied for Facts {

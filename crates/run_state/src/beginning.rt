@@ -13,7 +13,6 @@ use session_registry::SessionRegistry;
 use std::alloc::{AllocError, Global};
 
 /// All that a run takes memory for as it begins: copies of its tables, its sessions, and room for its entries.
-#[derive(Drop)]
 pub(crate) struct Beginning {
     alloc: Global,
     home: Tables,
@@ -21,6 +20,19 @@ pub(crate) struct Beginning {
     scripts: List<SessionScript>,
     registry: SessionRegistry,
     entries: ReservedList<Entry>,
+}
+
+impl Drop for Beginning {
+    fn drop(self) {
+        let Self {
+            alloc: _,
+            home: _,
+            away: _,
+            scripts: _,
+            registry: _,
+            entries: _,
+        } = self;
+    }
 }
 
 impl Beginning {
@@ -61,17 +73,25 @@ impl Beginning {
         ensures { result ≡ opened home.tables away.tables self.scripts }
     {
         let opening = self.home.latest.max(self.away.latest);
+        let Self {
+            alloc,
+            home: home_tables,
+            away: away_tables,
+            scripts,
+            registry,
+            entries,
+        } = self;
         RunState {
-            alloc: self.alloc,
-            home: RunDatabase::resume(self.home, home),
-            away: RunDatabase::resume(self.away, away),
-            scripts: self.scripts,
-            registry: self.registry,
+            alloc,
+            home: RunDatabase::resume(home_tables, home),
+            away: RunDatabase::resume(away_tables, away),
+            scripts,
+            registry,
             transit: None,
             opening,
             moment: opening,
             readings: 0,
-            entries: self.entries,
+            entries,
         }
     }
 }

@@ -15,7 +15,6 @@ use std::marker::Model;
 
 /// A database: its tables as the run began, and now; how many commits were made and how many are durable, how many of its seen pairs
 /// are durable, and the next id to give. Contracts see the database of the definitions.
-#[derive(Drop)]
 pub struct RunDatabase {
     opening: Tables,
     store: PreparedStore,
@@ -23,6 +22,19 @@ pub struct RunDatabase {
     durable: u64,
     durable_seen: u64,
     next: u64,
+}
+
+impl Drop for RunDatabase {
+    fn drop(self) {
+        let Self {
+            opening: _,
+            store: _,
+            made: _,
+            durable: _,
+            durable_seen: _,
+            next: _,
+        } = self;
+    }
 }
 
 impl Model for RunDatabase {
@@ -175,6 +187,14 @@ impl RunDatabase {
     pub fn finish(self) -> Tables
         ensures { result ≡ self.opening }
     {
-        self.opening
+        let Self {
+            opening,
+            store: _,
+            made: _,
+            durable: _,
+            durable_seen: _,
+            next: _,
+        } = self;
+        opening
     }
 }

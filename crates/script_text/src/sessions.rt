@@ -17,12 +17,22 @@ use std::marker::Model;
 
 /// The sessions that were declared so far, each with what it asks, their names with the same numbers, how many statements
 /// they ask together, and the most lines that are to come.
-#[derive(Drop)]
 pub struct Sessions {
     names: IndexSet<Name>,
     list: Vec<SessionScript>,
     asked: usize,
     lines: usize,
+}
+
+impl Drop for Sessions {
+    fn drop(self) {
+        let Self {
+            names: _,
+            list: _,
+            asked: _,
+            lines: _,
+        } = self;
+    }
 }
 
 impl Model for Sessions {
@@ -194,6 +204,12 @@ impl Sessions {
         ensures list { result ≡ self }
         ensures readable { AreReadable self }
     {
-        List::from_vec(self.list)
+        let Self {
+            names: _,
+            list,
+            asked: _,
+            lines: _,
+        } = self;
+        List::from_vec(list)
     }
 }

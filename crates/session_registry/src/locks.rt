@@ -8,10 +8,15 @@ use row_locks::{Mark, RowLocks};
 use std::alloc::{AllocError, Global};
 
 /// The marks of all sessions, by their database.
-#[derive(Drop)]
 pub struct Locks {
     home: RowLocks,
     away: RowLocks,
+}
+
+impl Drop for Locks {
+    fn drop(self) {
+        let Self { home: _, away: _ } = self;
+    }
 }
 
 /// Takes a mark that nobody else holds and for which there is room.

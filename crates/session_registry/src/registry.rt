@@ -18,10 +18,18 @@ use std::alloc::{AllocError, Global};
 use std::marker::Model;
 
 /// The sessions by their numbers, with their marks. Contracts see the sessions of the definitions.
-#[derive(Drop)]
 pub struct SessionRegistry {
     locks: Locks,
     sessions: SessionStates,
+}
+
+impl Drop for SessionRegistry {
+    fn drop(self) {
+        let Self {
+            locks: _,
+            sessions: _,
+        } = self;
+    }
 }
 
 impl Model for SessionRegistry {

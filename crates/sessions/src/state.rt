@@ -10,7 +10,6 @@ use slot_marks::Mark;
 use std::alloc::Global;
 
 /// What a session keeps from statement to statement. Its marks stand in the locks of its database.
-#[derive(Drop)]
 pub struct SessionState {
     /// The database in which it works.
     pub at: DbId,
@@ -26,6 +25,20 @@ pub struct SessionState {
     pub untold: Option<Untold>,
     /// Whether it goes on.
     pub live: bool,
+}
+
+impl Drop for SessionState {
+    fn drop(self) {
+        let Self {
+            at: _,
+            next: _,
+            pending: _,
+            positions: _,
+            parked: _,
+            untold: _,
+            live: _,
+        } = self;
+    }
 }
 
 /// A call whose reply was not told yet.

@@ -8,7 +8,6 @@ use payload_records::{Copied, Name};
 use std::alloc::AllocError;
 
 /// The messages of one commit in a grouped queue, as one consumer sees them.
-#[derive(Drop)]
 pub struct Group {
     /// The queue in which the messages stand.
     pub queue: Name,
@@ -16,6 +15,16 @@ pub struct Group {
     pub number: u64,
     /// The consumer, where the queue has consumers.
     pub consumer: Option<Name>,
+}
+
+impl Drop for Group {
+    fn drop(self) {
+        let Self {
+            queue: _,
+            number: _,
+            consumer: _,
+        } = self;
+    }
 }
 
 /// A session's mark on a slot of a message.

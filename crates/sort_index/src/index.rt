@@ -20,12 +20,22 @@ use std::sync::ledger::Ledger;
 
 /// The slots that are ready. Contracts see the rows of each queue and consumer, in the order of their places and at one place in
 /// the order of their ids, and for how many more there is memory.
-#[derive(Drop)]
 pub struct ReadyIndex {
     groups: Ordered<Group>,
     group_stock: Stock<Group>,
     stock: Stock<Ready>,
     puts: u64,
+}
+
+impl Drop for ReadyIndex {
+    fn drop(self) {
+        let Self {
+            groups: _,
+            group_stock: _,
+            stock: _,
+            puts: _,
+        } = self;
+    }
 }
 
 impl Model for ReadyIndex {

@@ -16,11 +16,20 @@ use queue_rows::{Change, MsgRow};
 use std::alloc::{AllocError, Global};
 
 /// What is due of the slots of some messages, which of the messages go, and what is settled besides, each in their order.
-#[derive(Drop)]
 pub(crate) struct Found {
     slots: Vec<Change>,
     purges: Vec<Change>,
     settled: Vec<Change>,
+}
+
+impl Drop for Found {
+    fn drop(self) {
+        let Self {
+            slots: _,
+            purges: _,
+            settled: _,
+        } = self;
+    }
 }
 
 impl Found {

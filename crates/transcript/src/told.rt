@@ -15,12 +15,20 @@ pub(crate) struct Call {
 }
 
 /// The calls whose replies were told. A session is told of its statements in order, so that a number has nearly all of them.
-#[derive(Drop)]
 pub(crate) struct ToldCalls {
     // Of each session up to which statement it was told of every one.
     counts: List<u32>,
     // The calls past that, and those of nobody's session.
     others: HashSet<Call>,
+}
+
+impl Drop for ToldCalls {
+    fn drop(self) {
+        let Self {
+            counts: _,
+            others: _,
+        } = self;
+    }
 }
 
 impl ToldCalls {
