@@ -13,8 +13,31 @@ use queue_rows::{Change, Commit};
 use std::alloc::{AllocError, Global};
 use valid_tables::names_what_is_there;
 
-// Makes a change where what it names is there, and then answers whether it was local.
+// Whether a change is local, where what it names is there.
+fn judge_change(store: &PreparedStore, change: &Change) -> Result<Option<bool>, AllocError>
+    ensures named { IfOk result (λ judged. is_some judged ≡ names_what_is_there store.now.tables change.now) }
+    ensures local { IfOk result (λ judged. IfSome judged (λ local.
+        local ≡ is_local store.now.tables change.now)) }
+{
+    if !names_what_is_there(store, change) {
+        return Ok(None);
+    }
+    Ok(Some(is_local(store.tables(), change)?))
+}
+
 #[tactic(auto, using(crate::proofs::Judging::after_one))]
+fn commit_change(alloc: Global, store: &mut PreparedStore, change: Change) -> Result<(), AllocError>
+    ensures { OnOk result (store.new.tables ≡ after_change store.old.tables change) }
+{
+    let mut changes = List::new(alloc);
+    changes.push(change)?;
+    let commit = Commit { moment: 0, changes };
+    store.prepare(&commit)?;
+    store.apply(commit);
+    Ok(())
+}
+
+// Makes a change where what it names is there, and then answers whether it was local.
 fn make_change(
     alloc: Global,
     store: &mut PreparedStore,
@@ -26,16 +49,16 @@ fn make_change(
     ensures local { IfOk result (λ made. IfSome made (λ local.
         local ≡ is_local store.old.tables change)) }
 {
-    if !names_what_is_there(store, &change) {
-        return Ok(None);
+    match judge_change(store, &change) {
+        Ok(Some(local)) => {
+            commit_change(alloc, store, change)?;
+            Ok(Some(local))
+        }
+        unmade => {
+            drop(change);
+            unmade
+        }
     }
-    let local = is_local(store.tables(), &change)?;
-    let mut changes = List::new(alloc);
-    changes.push(change)?;
-    let commit = Commit { moment: 0, changes };
-    store.prepare(&commit)?;
-    store.apply(commit);
-    Ok(Some(local))
 }
 
 // Makes changes in order where what they name is there when they come, and then answers whether each was local when it came.

@@ -9,16 +9,30 @@ use std::alloc::{AllocError, Global};
 pub(crate) fn one(alloc: Global, change: Change) -> Result<List<Change>, AllocError>
     ensures { IfOk result (λ changes. changes ≡ change ∷ []) }
 {
-    let mut changes = Vec::with_capacity(alloc, 1)?;
-    changes.push(change)?;
-    Ok(List::from_vec(changes))
+    match Vec::with_capacity(alloc, 1) {
+        Ok(mut changes) => {
+            changes.push(change)?;
+            Ok(List::from_vec(changes))
+        }
+        Err(AllocError) => {
+            drop(change);
+            Err(AllocError)
+        }
+    }
 }
 
 /// A list of two changes.
 pub(crate) fn two(alloc: Global, first: Change, second: Change) -> Result<List<Change>, AllocError>
     ensures { IfOk result (λ changes. changes ≡ first ∷ second ∷ []) }
 {
-    let mut changes = one(alloc, first)?;
-    changes.push(second)?;
-    Ok(changes)
+    match one(alloc, first) {
+        Ok(mut changes) => {
+            changes.push(second)?;
+            Ok(changes)
+        }
+        Err(AllocError) => {
+            drop(second);
+            Err(AllocError)
+        }
+    }
 }

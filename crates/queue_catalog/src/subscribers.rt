@@ -15,12 +15,50 @@ use exception_queues::{find_queue, find_table};
 use payload_records::{Boxed, Copied, List, Name, RecordType, Text};
 use queue_rows::{Change, LimitName, Reply, SubRow, Tables};
 use rule_checks::{CheckFault, read_checked};
+use rule_conditions::Cond;
 use std::alloc::{AllocError, Global};
 
 fn subscriber_count(tables: &Tables, queue: &Name) -> usize
     ensures { result ≡ length (subscribers_of tables.now queue.now) }
 {
     tables.subs.count_of(queue)
+}
+
+fn copied_names(
+    queue: &Name,
+    name: &Name,
+    address: &Option<Name>,
+) -> Result<(Name, Name, Option<Name>), AllocError>
+    ensures { IfOk result (λ copies. copies ≡ (queue.now, name.now, address.now)) }
+{
+    Ok((queue.copied()?, name.copied()?, Copied::copied(address)?))
+}
+
+fn put_ruled(
+    alloc: Global,
+    queue: &Name,
+    name: &Name,
+    address: &Option<Name>,
+    rule: Option<Cond>,
+) -> Result<List<Change>, AllocError>
+    ensures { IfOk result (λ changes.
+        put_sub queue.now name.now address.now (Ok rule) ≡ Ok changes) }
+{
+    match copied_names(queue, name, address) {
+        Ok((queue, name, address)) => {
+            let row = SubRow {
+                queue,
+                name,
+                address,
+                rule,
+            };
+            one(alloc, Change::PutSub(row))
+        }
+        Err(AllocError) => {
+            drop(rule);
+            Err(AllocError)
+        }
+    }
 }
 
 // The last test of a new subscriber is of its rule.
@@ -37,21 +75,14 @@ fn put_sub(
     ensures refused { IfErr result (Refuses
         (put_sub queue.now name.now address.now (optional_condition fields.now rule.now))) }
 {
-    let rule = match read_checked(alloc, rule.as_ref(), fields) {
-        Ok(rule) => rule,
+    match read_checked(alloc, rule.as_ref(), fields) {
+        Ok(rule) => Ok(put_ruled(alloc, queue, name, address, rule)?),
         Err(CheckFault::Refused(fault)) => {
             let fault = Boxed::new(alloc, fault)?;
-            return Err(CatalogFault::Refused(Reply::BadCondition(fault)));
+            Err(CatalogFault::Refused(Reply::BadCondition(fault)))
         }
-        Err(CheckFault::Memory) => return Err(CatalogFault::Memory),
-    };
-    let row = SubRow {
-        queue: queue.copied()?,
-        name: name.copied()?,
-        address: Copied::copied(address)?,
-        rule,
-    };
-    Ok(one(alloc, Change::PutSub(row))?)
+        Err(CheckFault::Memory) => Err(CatalogFault::Memory),
+    }
 }
 
 /// A subscriber of a normal queue of a table for many consumers, with a rule that fits the table.

@@ -324,7 +324,19 @@ moved_at bytes = do
   at ← num_at queue.1
   Some (changes.Moved id.0 queue.0 at.0, at.1)
 
--- the change of a tag
+-- the change of a tag, of those that name slots, messages or numbers
+abbrev pub slot_change_by : ℕ → List ℕ → Read Change
+slot_change_by tag rest = if tag == 10 then retried_at rest
+    else (if tag == 11 then slot_change_at changes.Ready rest
+    else (if tag == 12 then slot_change_at changes.Done rest
+    else (if tag == 13 then slot_change_at changes.Expired rest
+    else (if tag == 14 then slot_change_at changes.Dropped rest
+    else (if tag == 15 then moved_at rest
+    else (if tag == 16 then put changes.Purged (num_at rest)
+    else (if tag == 17 then put changes.Seen (seen_row_at rest)
+    else (if tag == 18 then slot_change_at changes.Counters rest else None))))))))
+
+-- and of all
 abbrev pub change_by : ℕ → ℕ → List ℕ → Read Change
 change_by version tag rest = if tag == 1 then put changes.PutTable (table_row_at rest)
     else (if tag == 2 then put changes.DropTable (name_at rest)
@@ -334,16 +346,7 @@ change_by version tag rest = if tag == 1 then put changes.PutTable (table_row_at
     else (if tag == 6 then named_change_at changes.DropSub rest
     else (if tag == 7 then put changes.PutSchedule (schedule_row_at rest)
     else (if tag == 8 then named_change_at changes.DropSchedule rest
-    else (if tag == 9 then put changes.Enqueued (msg_row_at version rest)
-    else (if tag == 10 then retried_at rest
-    else (if tag == 11 then slot_change_at changes.Ready rest
-    else (if tag == 12 then slot_change_at changes.Done rest
-    else (if tag == 13 then slot_change_at changes.Expired rest
-    else (if tag == 14 then slot_change_at changes.Dropped rest
-    else (if tag == 15 then moved_at rest
-    else (if tag == 16 then put changes.Purged (num_at rest)
-    else (if tag == 17 then put changes.Seen (seen_row_at rest)
-    else (if tag == 18 then slot_change_at changes.Counters rest else None)))))))))))))))))
+    else (if tag == 9 then put changes.Enqueued (msg_row_at version rest) else slot_change_by tag rest))))))))
 
 abbrev pub change_at : ℕ → List ℕ → Read Change
 change_at version [] = None

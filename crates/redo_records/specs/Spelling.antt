@@ -125,26 +125,51 @@ seen_row r = num r.id ++ num r.slot ++ num r.copy
 abbrev pub slot_at : ℕ → ℕ → ℕ → List ℕ
 slot_at id slot at = num id ++ num slot ++ num at
 
+-- which change it is
+abbrev pub change_tag : Change → ℕ
+change_tag (changes.PutTable row) = 1
+change_tag (changes.DropTable name) = 2
+change_tag (changes.PutQueue row) = 3
+change_tag (changes.DropQueue name) = 4
+change_tag (changes.PutSub row) = 5
+change_tag (changes.DropSub queue name) = 6
+change_tag (changes.PutSchedule row) = 7
+change_tag (changes.DropSchedule queue to) = 8
+change_tag (changes.Enqueued row) = 9
+change_tag (changes.Retried id slot retries until at) = 10
+change_tag (changes.Ready id slot at) = 11
+change_tag (changes.Done id slot at) = 12
+change_tag (changes.Expired id slot at) = 13
+change_tag (changes.Dropped id slot at) = 14
+change_tag (changes.Moved id queue at) = 15
+change_tag (changes.Purged id) = 16
+change_tag (changes.Seen row) = 17
+change_tag (changes.Counters next transaction latest) = 18
+
+-- what it says
+abbrev pub change_fields : ℕ → Change → List ℕ
+change_fields version (changes.PutTable row) = table_row row
+change_fields version (changes.DropTable name) = run name
+change_fields version (changes.PutQueue row) = queue_row row
+change_fields version (changes.DropQueue name) = run name
+change_fields version (changes.PutSub row) = sub_row row
+change_fields version (changes.DropSub queue name) = run queue ++ run name
+change_fields version (changes.PutSchedule row) = schedule_row row
+change_fields version (changes.DropSchedule queue to) = run queue ++ run to
+change_fields version (changes.Enqueued row) = msg_row version row
+change_fields version (changes.Retried id slot retries until at) = num id ++ num slot ++ num retries ++ optional num until ++ num at
+change_fields version (changes.Ready id slot at) = slot_at id slot at
+change_fields version (changes.Done id slot at) = slot_at id slot at
+change_fields version (changes.Expired id slot at) = slot_at id slot at
+change_fields version (changes.Dropped id slot at) = slot_at id slot at
+change_fields version (changes.Moved id queue at) = num id ++ run queue ++ num at
+change_fields version (changes.Purged id) = num id
+change_fields version (changes.Seen row) = seen_row row
+change_fields version (changes.Counters next transaction latest) = num next ++ num transaction ++ num latest
+
 -- a tag, and the change's fields
 abbrev pub change : ℕ → Change → List ℕ
-change version (changes.PutTable row) = 1 ∷ table_row row
-change version (changes.DropTable name) = 2 ∷ run name
-change version (changes.PutQueue row) = 3 ∷ queue_row row
-change version (changes.DropQueue name) = 4 ∷ run name
-change version (changes.PutSub row) = 5 ∷ sub_row row
-change version (changes.DropSub queue name) = 6 ∷ (run queue ++ run name)
-change version (changes.PutSchedule row) = 7 ∷ schedule_row row
-change version (changes.DropSchedule queue to) = 8 ∷ (run queue ++ run to)
-change version (changes.Enqueued row) = 9 ∷ msg_row version row
-change version (changes.Retried id slot retries until at) = 10 ∷ (num id ++ num slot ++ num retries ++ optional num until ++ num at)
-change version (changes.Ready id slot at) = 11 ∷ slot_at id slot at
-change version (changes.Done id slot at) = 12 ∷ slot_at id slot at
-change version (changes.Expired id slot at) = 13 ∷ slot_at id slot at
-change version (changes.Dropped id slot at) = 14 ∷ slot_at id slot at
-change version (changes.Moved id queue at) = 15 ∷ (num id ++ run queue ++ num at)
-change version (changes.Purged id) = 16 ∷ num id
-change version (changes.Seen row) = 17 ∷ seen_row row
-change version (changes.Counters next transaction latest) = 18 ∷ (num next ++ num transaction ++ num latest)
+change version c = change_tag c ∷ change_fields version c
 
 -- ---- commits
 

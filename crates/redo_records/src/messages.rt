@@ -112,7 +112,6 @@ pub(crate) fn put_msg_row(out: &mut Vec<u8>, row: &MsgRow) -> Result<(), AllocEr
 }
 
 /// What stands in front of a message's cells.
-#[derive(Drop)]
 pub(crate) struct MsgFront {
     id: u64,
     queue: Name,
@@ -122,37 +121,61 @@ pub(crate) struct MsgFront {
     exception: Option<Name>,
 }
 
-fn msg_behind_front(
-    alloc: Global,
-    version: u32,
-    front: MsgFront,
-    bytes: &[u8],
-) -> Result<(MsgRow, &[u8]), DecodeFault>
-    ensures { Gives (λ x. (x.0, x.1.now)) result (msg_behind_front version front bytes.now) }
-{
-    let (cells, rest) = cells_at(alloc, bytes)?;
-    let (enq, rest) = num_at(rest)?;
-    let (group, rest) = num_at(rest)?;
-    let (moved, rest) = flag_at(rest)?;
-    let (slots, rest) = list_at(alloc, rest)?;
-    let (props, rest) = props_at(alloc, version, rest)?;
-    let row = MsgRow {
-        id: front.id,
-        queue: front.queue,
-        place: front.place,
-        facts: Facts {
-            priority: front.priority,
-            corr: front.corr,
+impl Drop for MsgFront {
+    fn drop(self) {
+        let Self {
+            id: _,
+            queue: _,
+            place: _,
+            priority: _,
+            corr: _,
+            exception: _,
+        } = self;
+    }
+}
+
+impl MsgFront {
+    fn msg_behind(
+        self,
+        alloc: Global,
+        version: u32,
+        bytes: &[u8],
+    ) -> Result<(MsgRow, &[u8]), DecodeFault>
+        ensures { Gives (λ x. (x.0, x.1.now)) result (msg_behind_front version self bytes.now) }
+    {
+        let (cells, rest) = cells_at(alloc, bytes)?;
+        let (enq, rest) = num_at(rest)?;
+        let (group, rest) = num_at(rest)?;
+        let (moved, rest) = flag_at(rest)?;
+        let (slots, rest) = list_at(alloc, rest)?;
+        let (props, rest) = props_at(alloc, version, rest)?;
+        let Self {
+            id,
+            queue,
+            place,
+            priority,
+            corr,
+            exception,
+        } = self;
+        let facts = Facts {
+            priority,
+            corr,
             cells: Record { cells },
             props,
-        },
-        exception: front.exception,
-        enq,
-        group,
-        moved,
-        slots,
-    };
-    Ok((row, rest))
+        };
+        let row = MsgRow {
+            id,
+            queue,
+            place,
+            facts,
+            exception,
+            enq,
+            group,
+            moved,
+            slots,
+        };
+        Ok((row, rest))
+    }
 }
 
 /// The message at the front in a version, and what stands behind it.
@@ -178,5 +201,5 @@ pub(crate) fn msg_row_at(
         corr,
         exception,
     };
-    msg_behind_front(alloc, version, front, rest)
+    front.msg_behind(alloc, version, rest)
 }

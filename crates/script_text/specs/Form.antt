@@ -19,20 +19,26 @@ message_verb_of word = if bytes_eq word (codes "enqueue") then Some verbs.Enqueu
     else (if bytes_eq word (codes "commit") then Some verbs.Commit
     else (if bytes_eq word (codes "rollback") then Some verbs.Rollback else None))))
 
--- and of those that administer
-abbrev pub admin_verb_of : List ℕ → Option Verb
-admin_verb_of word = if bytes_eq word (codes "create-table") then Some verbs.CreateTable
+-- of those that administer tables and queues
+abbrev pub queue_verb_of : List ℕ → Option Verb
+queue_verb_of word = if bytes_eq word (codes "create-table") then Some verbs.CreateTable
     else (if bytes_eq word (codes "drop-table") then Some verbs.DropTable
     else (if bytes_eq word (codes "create-queue") then Some verbs.CreateQueue
     else (if bytes_eq word (codes "drop-queue") then Some verbs.DropQueue
     else (if bytes_eq word (codes "start-queue") then Some verbs.StartQueue
-    else (if bytes_eq word (codes "stop-queue") then Some verbs.StopQueue
-    else (if bytes_eq word (codes "add-subscriber") then Some verbs.AddSubscriber
+    else (if bytes_eq word (codes "stop-queue") then Some verbs.StopQueue else None)))))
+
+-- and of those that administer subscribers and schedules
+abbrev pub route_verb_of : List ℕ → Option Verb
+route_verb_of word = if bytes_eq word (codes "add-subscriber") then Some verbs.AddSubscriber
     else (if bytes_eq word (codes "remove-subscriber") then Some verbs.RemoveSubscriber
     else (if bytes_eq word (codes "schedule") then Some verbs.Schedule
     else (if bytes_eq word (codes "unschedule") then Some verbs.Unschedule
     else (if bytes_eq word (codes "enable-schedule") then Some verbs.EnableSchedule
-    else (if bytes_eq word (codes "disable-schedule") then Some verbs.DisableSchedule else None)))))))))))
+    else (if bytes_eq word (codes "disable-schedule") then Some verbs.DisableSchedule else None)))))
+
+abbrev pub admin_verb_of : List ℕ → Option Verb
+admin_verb_of word = option_or (queue_verb_of word) (route_verb_of word)
 
 -- what the statements of that word do
 abbrev pub verb_of : List ℕ → Option Verb
@@ -69,18 +75,35 @@ is_key_of_schedule key =
 abbrev pub is_key_of_route : List ℕ → Bool
 is_key_of_route key = bytes_eq key (codes "queue") || bytes_eq key (codes "to")
 
+-- of what a message is, and for whom
+abbrev pub is_key_of_message : List ℕ → Bool
+is_key_of_message key =
+    bytes_eq key (codes "payload") || bytes_eq key (codes "priority") || bytes_eq key (codes "corr")
+    || bytes_eq key (codes "recipients") || bytes_eq key (codes "exception_queue") || bytes_eq key (codes "props")
+
+-- of where it is put, and when
+abbrev pub is_key_of_placing : List ℕ → Bool
+is_key_of_placing key =
+    bytes_eq key (codes "queue") || bytes_eq key (codes "visibility") || bytes_eq key (codes "delay")
+    || bytes_eq key (codes "expiration") || bytes_eq key (codes "before") || bytes_eq key (codes "top")
+
 abbrev pub is_key_of_enqueue : List ℕ → Bool
-is_key_of_enqueue key =
-    bytes_eq key (codes "queue") || bytes_eq key (codes "payload") || bytes_eq key (codes "visibility")
-    || bytes_eq key (codes "priority") || bytes_eq key (codes "delay") || bytes_eq key (codes "expiration")
-    || bytes_eq key (codes "corr") || bytes_eq key (codes "recipients") || bytes_eq key (codes "exception_queue")
-    || bytes_eq key (codes "before") || bytes_eq key (codes "top") || bytes_eq key (codes "props")
+is_key_of_enqueue key = is_key_of_message key || is_key_of_placing key
+
+-- of which message is wanted
+abbrev pub is_key_of_choice : List ℕ → Bool
+is_key_of_choice key =
+    bytes_eq key (codes "consumer") || bytes_eq key (codes "navigation") || bytes_eq key (codes "msgid")
+    || bytes_eq key (codes "corr") || bytes_eq key (codes "condition")
+
+-- of where it is taken, and how
+abbrev pub is_key_of_taking : List ℕ → Bool
+is_key_of_taking key =
+    bytes_eq key (codes "queue") || bytes_eq key (codes "mode") || bytes_eq key (codes "visibility")
+    || bytes_eq key (codes "wait")
 
 abbrev pub is_key_of_dequeue : List ℕ → Bool
-is_key_of_dequeue key =
-    bytes_eq key (codes "queue") || bytes_eq key (codes "consumer") || bytes_eq key (codes "mode")
-    || bytes_eq key (codes "navigation") || bytes_eq key (codes "visibility") || bytes_eq key (codes "wait")
-    || bytes_eq key (codes "msgid") || bytes_eq key (codes "corr") || bytes_eq key (codes "condition")
+is_key_of_dequeue key = is_key_of_choice key || is_key_of_taking key
 
 abbrev pub is_key_of_verb : Verb → List ℕ → Bool
 is_key_of_verb verbs.CreateTable key = is_key_of_create_table key

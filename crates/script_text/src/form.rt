@@ -1,7 +1,7 @@
 // What an object is about, and which members it may have.
 ghost use Rattle.std.specs.Prelude.{◌≡◌};
 ghost use Rattle.serde_json.specs.View.{view, members_view};
-ghost use Rattle.script_text.specs.Form.{message_verb_of, admin_verb_of, verb_of, is_key_of_create_table, is_key_of_create_queue, is_key_of_switch, is_key_of_add_subscriber, is_key_of_schedule, is_key_of_route, is_key_of_enqueue, is_key_of_dequeue, is_key_of_verb, is_key_of, only_keys, has_form};
+ghost use Rattle.script_text.specs.Form.{message_verb_of, queue_verb_of, route_verb_of, admin_verb_of, verb_of, is_key_of_create_table, is_key_of_create_queue, is_key_of_switch, is_key_of_add_subscriber, is_key_of_schedule, is_key_of_route, is_key_of_message, is_key_of_placing, is_key_of_enqueue, is_key_of_choice, is_key_of_taking, is_key_of_dequeue, is_key_of_verb, is_key_of, only_keys, has_form};
 
 use serde_json::{Map, Value};
 
@@ -75,8 +75,8 @@ fn message_verb_of(word: &str) -> Option<Verb>
     }
 }
 
-fn admin_verb_of(word: &str) -> Option<Verb>
-    ensures { result ≡ admin_verb_of word.now }
+fn queue_verb_of(word: &str) -> Option<Verb>
+    ensures { result ≡ queue_verb_of word.now }
 {
     if word == "create-table" {
         Some(Verb::CreateTable)
@@ -90,7 +90,15 @@ fn admin_verb_of(word: &str) -> Option<Verb>
         Some(Verb::StartQueue)
     } else if word == "stop-queue" {
         Some(Verb::StopQueue)
-    } else if word == "add-subscriber" {
+    } else {
+        None
+    }
+}
+
+fn route_verb_of(word: &str) -> Option<Verb>
+    ensures { result ≡ route_verb_of word.now }
+{
+    if word == "add-subscriber" {
         Some(Verb::AddSubscriber)
     } else if word == "remove-subscriber" {
         Some(Verb::RemoveSubscriber)
@@ -104,6 +112,15 @@ fn admin_verb_of(word: &str) -> Option<Verb>
         Some(Verb::DisableSchedule)
     } else {
         None
+    }
+}
+
+fn admin_verb_of(word: &str) -> Option<Verb>
+    ensures { result ≡ admin_verb_of word.now }
+{
+    match queue_verb_of(word) {
+        Some(verb) => Some(verb),
+        None => route_verb_of(word),
     }
 }
 
@@ -163,35 +180,54 @@ fn is_key_of_route(key: &str) -> bool
     key == "queue" || key == "to"
 }
 
-fn is_key_of_enqueue(key: &str) -> bool
-    ensures { result ≡ is_key_of_enqueue key.now }
+fn is_key_of_message(key: &str) -> bool
+    ensures { result ≡ is_key_of_message key.now }
 {
-    key == "queue"
-        || key == "payload"
-        || key == "visibility"
+    key == "payload"
         || key == "priority"
-        || key == "delay"
-        || key == "expiration"
         || key == "corr"
         || key == "recipients"
         || key == "exception_queue"
+        || key == "props"
+}
+
+fn is_key_of_placing(key: &str) -> bool
+    ensures { result ≡ is_key_of_placing key.now }
+{
+    key == "queue"
+        || key == "visibility"
+        || key == "delay"
+        || key == "expiration"
         || key == "before"
         || key == "top"
-        || key == "props"
+}
+
+fn is_key_of_enqueue(key: &str) -> bool
+    ensures { result ≡ is_key_of_enqueue key.now }
+{
+    is_key_of_message(key) || is_key_of_placing(key)
+}
+
+fn is_key_of_choice(key: &str) -> bool
+    ensures { result ≡ is_key_of_choice key.now }
+{
+    key == "consumer"
+        || key == "navigation"
+        || key == "msgid"
+        || key == "corr"
+        || key == "condition"
+}
+
+fn is_key_of_taking(key: &str) -> bool
+    ensures { result ≡ is_key_of_taking key.now }
+{
+    key == "queue" || key == "mode" || key == "visibility" || key == "wait"
 }
 
 fn is_key_of_dequeue(key: &str) -> bool
     ensures { result ≡ is_key_of_dequeue key.now }
 {
-    key == "queue"
-        || key == "consumer"
-        || key == "mode"
-        || key == "navigation"
-        || key == "visibility"
-        || key == "wait"
-        || key == "msgid"
-        || key == "corr"
-        || key == "condition"
+    is_key_of_choice(key) || is_key_of_taking(key)
 }
 
 fn is_key_of_verb(verb: Verb, key: &str) -> bool

@@ -28,20 +28,20 @@ fn statement_of(alloc: Global, verb: Verb, value: &Value) -> Result<Statement, L
         Verb::Listen => return Ok(Statement::Listen(message::listen(alloc, value)?)),
         Verb::Commit => return Ok(Statement::Commit),
         Verb::Rollback => return Ok(Statement::Rollback),
-        Verb::CreateTable => admin::create_table(alloc, value)?,
-        Verb::DropTable => admin::drop_table(alloc, value)?,
-        Verb::CreateQueue => admin::create_queue(alloc, value)?,
-        Verb::DropQueue => admin::drop_queue(alloc, value)?,
-        Verb::StartQueue => admin::start_queue(alloc, value)?,
-        Verb::StopQueue => admin::stop_queue(alloc, value)?,
-        Verb::AddSubscriber => admin::add_subscriber(alloc, value)?,
-        Verb::RemoveSubscriber => admin::remove_subscriber(alloc, value)?,
-        Verb::Schedule => admin::schedule(alloc, value)?,
-        Verb::Unschedule => admin::unschedule(alloc, value)?,
-        Verb::EnableSchedule => admin::enable_schedule(alloc, value)?,
-        Verb::DisableSchedule => admin::disable_schedule(alloc, value)?,
+        Verb::CreateTable => admin::create_table(alloc, value),
+        Verb::DropTable => admin::drop_table(alloc, value),
+        Verb::CreateQueue => admin::create_queue(alloc, value),
+        Verb::DropQueue => admin::drop_queue(alloc, value),
+        Verb::StartQueue => admin::start_queue(alloc, value),
+        Verb::StopQueue => admin::stop_queue(alloc, value),
+        Verb::AddSubscriber => admin::add_subscriber(alloc, value),
+        Verb::RemoveSubscriber => admin::remove_subscriber(alloc, value),
+        Verb::Schedule => admin::schedule(alloc, value),
+        Verb::Unschedule => admin::unschedule(alloc, value),
+        Verb::EnableSchedule => admin::enable_schedule(alloc, value),
+        Verb::DisableSchedule => admin::disable_schedule(alloc, value),
     };
-    Ok(Statement::Admin(ask))
+    Ok(Statement::Admin(ask?))
 }
 
 fn verb_at(value: &Value) -> Option<Verb>

@@ -98,9 +98,16 @@ fn alone(alloc: Global, change: Change) -> Result<List<Change>, AllocError>
         Change::Done { .. } => 2,
         _ => 1,
     };
-    let mut changes = Vec::with_capacity(alloc, room)?;
-    changes.push(change)?;
-    Ok(List::from_vec(changes))
+    match Vec::with_capacity(alloc, room) {
+        Ok(mut list) => {
+            list.push(change)?;
+            Ok(List::from_vec(list))
+        }
+        Err(AllocError) => {
+            drop(change);
+            Err(AllocError)
+        }
+    }
 }
 
 /// What one addition or removal becomes when it is committed at that moment, as a transaction of its own. It copies no queue.
