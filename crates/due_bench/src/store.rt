@@ -22,7 +22,6 @@ use std::alloc::{AllocError, Global};
 use time_manager::due;
 
 /// Tables with their indexes.
-#[derive(Drop)]
 pub struct Indexed {
     tables: Tables,
     due: DueSlots,
@@ -31,6 +30,16 @@ pub struct Indexed {
     ghost few: { All HasFewSlots tables.messages },
     ghost named: { NamesDue tables due.rows },
     ghost sent: { IndexesRemote (entries_from 0 tables.messages) remote },
+}
+
+impl Drop for Indexed {
+    fn drop(self) {
+        let Self {
+            tables: _,
+            due: _,
+            remote: _,
+        } = self;
+    }
 }
 
 // ---- what is due

@@ -13,11 +13,16 @@ use row_tree::Tree;
 use std::alloc::{AllocError, Global};
 
 /// Tables, and the rows of what is due in them.
-#[derive(Drop)]
 pub(crate) struct Indexed {
     tables: Tables,
     due: DueSlots,
     ghost names: { NamesDue tables due.rows },
+}
+
+impl Drop for Indexed {
+    fn drop(self) {
+        let Self { tables: _, due: _ } = self;
+    }
 }
 
 fn add(due: &mut DueSlots, message: &MsgRow) -> Result<(), AllocError>
