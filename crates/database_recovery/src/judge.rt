@@ -15,7 +15,8 @@ use valid_tables::names_what_is_there;
 
 // Whether a change is local, where what it names is there.
 fn judge_change(store: &PreparedStore, change: &Change) -> Result<Option<bool>, AllocError>
-    ensures named { IfOk result (λ judged. is_some judged ≡ names_what_is_there store.now.tables change.now) }
+    ensures named { IfOk result (λ judged.
+        is_some judged ≡ names_what_is_there store.now.tables change.now) }
     ensures local { IfOk result (λ judged. IfSome judged (λ local.
         local ≡ is_local store.now.tables change.now)) }
 {
