@@ -1,36 +1,26 @@
--- A message that goes takes its rows with it: those of the nameless consumer and of each that a slot names, and it has no others.
+-- A message that goes takes its rows with it: those of the nameless consumer and of each that a slot names, where it has a ready slot for
+-- them. It has no others.
 use Rattle.std.proofs.Common.{◌≡◌, ◌≢◌, ℕ, ℤ, Bool, true, false, cond, not, map, filter, List, [], ◌∷◌, Option, Some, None, refl, sym, ap, ◌∙◌, ◌||◌, ◌&&◌}
-use Rattle.std.proofs.lemmas.Bool.{and_parts, false_from_ne_true}
-use Rattle.std.proofs.lemmas.Cmp.{tied_itself}
 use Rattle.std.proofs.lemmas.List.Elements.{All-head, All-tail}
-use Rattle.std.proofs.lemmas.Slice.Eq.{bytes_eq-Decides}
-use Rattle.std.specs.Prelude.{is_none}
-use Rattle.std.specs.List.{list_any}
+use Rattle.std.specs.Option.{option_map_or}
 use Rattle.std.specs.Ordering.{is_eq}
-use Rattle.std.specs.Str.{bytes_eq}
 use Rattle.std.specs.declared.cmp.Ordering.{Ordering}
 use Rattle.std.specs.declared.cmp.Ordering.TheVariants.{Less, Equal, Greater}
-use Rattle.queue_rows.specs.Session.{is_same_consumer}
-use Rattle.queue_rows.specs.Settling.{is_ready}
-use Rattle.queue_rows.specs.Dequeueing.{is_local_for}
 use Rattle.queue_rows.specs.declared.rows.MsgRow.{MsgRow}
 use Rattle.queue_rows.specs.declared.rows.SlotRow.{SlotRow}
 use Rattle.sort_index.specs.Ready.{EditsRows, is_of, key, names_cmp, rows_of}
 use Rattle.sort_index.specs.Ready as ready
-use Rattle.sort_index.specs.ReadyLaws.{group_cmp_total, names_exact}
+use Rattle.sort_index.specs.ReadyLaws.{names_exact}
 use Rattle.sort_index.specs.declared.group.Ready.{Ready}
 use Rattle.sort_index.specs.declared.group.Group.{Group}
 use Rattle.choice_laws.specs.EditLaws.{IsFree}
-use Rattle.choice_laws.specs.Entries.{Row, row_cmp, rows_for, shows, stands_for, without_row}
+use Rattle.choice_laws.specs.Entries.{Row, row_cmp, rows_for, shows, without_row}
 use Rattle.choice_laws.proofs.Edited.{missing_row_is_free, rows_after_removal}
 use Rattle.message_choice.specs.Indexed.{stamped}
 use Rattle.ready_slots.specs.Edits.{Removes, entry}
-use Rattle.ready_slots.specs.Taking.{TakesEach, TakesRow, is_named, taken_where, told}
-
-pub is_Equal : (o : Ordering) → is_eq o ≡ true → o ≡ Equal
-is_Equal Less e = cc e
-is_Equal Equal e = refl
-is_Equal Greater e = cc e
+use Rattle.ready_slots.specs.Shown.{is_any_offered, is_nameless, offered_to}
+use Rattle.ready_slots.specs.Taking.{TakesEach, TakesNameless, TakesRow, row_at, taken_where, told}
+use Rattle.ready_slots.proofs.Standing.{is_Equal, stands_where_put}
 
 -- ---- one row is taken out
 
@@ -95,53 +85,46 @@ all_gone : (goes : Bool) (row : Row) (rows : List Row) → (goes ≡ false → I
 all_gone true row rows free = refl
 all_gone false row rows free = sym (none_gone row rows (free refl))
 
-pub or_true : (a b : Bool) → b ≡ true → (a || b) ≡ true
-or_true true b e = refl
-or_true false b e = e
+-- ---- for the nameless consumer
 
-pub any_weaker : {T : Type 0} (p q : T → Bool) → ((x : T) → p x ≡ true → q x ≡ true) → (xs : List T) → list_any p xs ≡ true → list_any q xs ≡ true
-any_weaker p q h [] e = cc e
-any_weaker p q h (x ∷ xs) e =
-    let P : Bool → Type 0 = λ b. p x ≡ b → (b || list_any p xs) ≡ true → (q x || list_any q xs) ≡ true in
-    elim (p x) as P [
-      | true ↦ λ px some. ap (λ b. b || list_any q xs) (h x px)
-      | false ↦ λ px rest. or_true (q x) (list_any q xs) (any_weaker p q h xs rest)
-    ] refl e
+pub take_if_shown : (shown : Bool) (m : MsgRow) (stamp : ℕ) (before after : List Group) → shown ≡ shows m None → shown ≡ true → TakesRow m.queue None m.place stamp before after → TakesNameless m stamp before after
+take_if_shown shown m stamp before after is so takes q c =
+    takes q c ∙ ap (λ b. taken_where (b && is_of q c (key m.queue None)) (row_at stamp m) (told q c before)) (sym so ∙ is)
 
-pub same_name : (a : Option (List ℕ)) (name : List ℕ) → is_same_consumer a (Some name) ≡ true → a ≡ Some name
-same_name None name e = cc e
-same_name (Some x) name e = ap Some ((bytes_eq-Decides x name).0 e)
+pub keeps_unless_shown : (shown : Bool) (m : MsgRow) (stamp : ℕ) (groups : List Group) → shown ≡ shows m None → shown ≡ false → TakesNameless m stamp groups groups
+keeps_unless_shown shown m stamp groups is so q c =
+    ap (λ b. taken_where (b && is_of q c (key m.queue None)) (row_at stamp m) (told q c groups)) (sym so ∙ is)
 
-pub own_names : (q : List ℕ) (c : Option (List ℕ)) → is_of q c (key q c) ≡ true
-own_names q c = ap is_eq (tied_itself group_cmp_total (key q c))
+-- ---- for a slot
 
--- a message that stands for a consumer names it, or it is the nameless one
-named_where_standing : (q : List ℕ) (c : Option (List ℕ)) (m : MsgRow) → stands_for q c m ≡ true → (is_of q c (key m.queue None) || is_named m.queue m.slots q c) ≡ true
-named_where_standing q None m stands =
-    let here = (bytes_eq-Decides m.queue q).0 (and_parts (bytes_eq m.queue q) (shows m None) stands).0 in
-    ap (λ b. b || is_named m.queue m.slots q None) (ap (λ x. is_of q None (key x None)) here ∙ own_names q None)
-named_where_standing q (Some name) m stands =
-    let parts = and_parts (bytes_eq m.queue q) (shows m (Some name)) stands in
-    let here = (bytes_eq-Decides m.queue q).0 parts.0 in
-    let named : (s : SlotRow) → (is_local_for name s && is_ready s.state) ≡ true → is_of q (Some name) (key m.queue s.name) ≡ true =
-    λ s offers.
-    let local = (and_parts (is_local_for name s) (is_ready s.state) offers).0 in
-    let same = same_name s.name name (and_parts (is_same_consumer s.name (Some name)) (is_none s.address) local).0 in
-    ap (λ x. is_of q (Some name) (key x s.name)) here ∙ ap (λ x. is_of q (Some name) (key q x)) same ∙ own_names q (Some name) in
-    or_true (is_of q (Some name) (key m.queue None)) (is_named m.queue m.slots q (Some name))
-    (any_weaker (λ (s : SlotRow). is_local_for name s && is_ready s.state) (λ (s : SlotRow). is_of q (Some name) (key m.queue s.name)) named m.slots parts.1)
+module _ (m : MsgRow) (stamp : ℕ) (s : SlotRow) (rest : List SlotRow) (q : List ℕ) (c : Option (List ℕ)) where
+  pub one_less : (name : List ℕ) (before after : List Group) → offered_to s ≡ Some name → TakesRow m.queue (Some name) m.place stamp before after
+      → taken_where (is_any_offered m.queue rest q c) (row_at stamp m) (told q c after) ≡ taken_where (is_any_offered m.queue (s ∷ rest) q c) (row_at stamp m) (told q c before)
+  one_less name before after offered takes =
+      let row = row_at stamp m in
+      let own = is_of q c (key m.queue (Some name)) in
+      let others = is_any_offered m.queue rest q c in
+      ap (taken_where others row) (takes q c)
+      ∙ taken_both own others row (told q c before)
+      ∙ sym (ap (λ o. taken_where (option_map_or (λ n. is_of q c (key m.queue (Some n))) o false || others) row (told q c before)) offered)
+
+  pub none_less : (groups : List Group) → offered_to s ≡ None
+      → taken_where (is_any_offered m.queue rest q c) (row_at stamp m) (told q c groups) ≡ taken_where (is_any_offered m.queue (s ∷ rest) q c) (row_at stamp m) (told q c groups)
+  none_less groups none =
+      sym (ap (λ o. taken_where (option_map_or (λ n. is_of q c (key m.queue (Some n))) o false || is_any_offered m.queue rest q c) (row_at stamp m) (told q c groups)) none)
+
+-- ---- all rows of a message
 
 pub removes : (stamp : ℕ) (m : MsgRow) (before middle after : List Group)
-    → TakesRow m.queue None m.place stamp before middle → TakesEach m stamp middle after → Removes stamp m before after
-removes stamp m before middle after unnamed each entries at rising there indexed q c =
-    let row : Row = record { place = m.place; stamp = stamp } in
-    let a = is_of q c (key m.queue None) in
-    let b = is_named m.queue m.slots q c in
+    → TakesNameless m stamp before middle → TakesEach m stamp middle after → Removes stamp m before after
+removes stamp m before middle after nameless each entries at rising there indexed q c =
+    let row = row_at stamp m in
+    let a = is_nameless m q c in
+    let b = is_any_offered m.queue m.slots q c in
     let free : (a || b) ≡ false → IsFree row (rows_for q c entries) =
-    λ none. missing_row_is_free q c entries at (entry stamp m) rising there
-    (false_from_ne_true (stands_for q c m) (λ stands. let both : true ≡ false = sym (named_where_standing q c m stands) ∙ none in cc both)) in
+    λ none. missing_row_is_free q c entries at (entry stamp m) rising there (sym (stands_where_put q m c) ∙ none) in
     each q c
-    ∙ ap (taken_where b row) (unnamed q c)
+    ∙ ap (taken_where b row) (nameless q c)
     ∙ taken_both a b row (told q c before)
     ∙ ap (taken_where (a || b) row) (indexed q c)
     ∙ all_gone (a || b) row (rows_for q c entries) free

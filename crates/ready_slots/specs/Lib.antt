@@ -1,3 +1,4 @@
 pub mod Edits
 pub mod Putting
+pub mod Shown
 pub mod Taking

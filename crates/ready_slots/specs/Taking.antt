@@ -1,16 +1,19 @@
 -- What of the rows of each queue and consumer is left when some of them lose a row.
 use Rattle.std.specs.Prelude.{◌≡◌, ℕ, ℤ, Bool, cond, map, List, Option}
-use Rattle.std.specs.List.{list_any}
 use Rattle.queue_rows.specs.declared.rows.MsgRow.{MsgRow}
-use Rattle.queue_rows.specs.declared.rows.SlotRow.{SlotRow}
 use Rattle.sort_index.specs.Ready.{is_of, key, rows_of}
 use Rattle.sort_index.specs.declared.group.Group.{Group}
 use Rattle.choice_laws.specs.Entries.{Row, without_row}
 use Rattle.message_choice.specs.Indexed.{stamped}
+use Rattle.ready_slots.specs.Shown.{is_any_offered, is_nameless}
 
 -- the rows of a queue and consumer, without their slots
 abbrev pub told : List ℕ → Option (List ℕ) → List Group → List Row
 told queue consumer groups = map stamped (rows_of queue consumer groups)
+
+-- the row of the message under the stamp
+abbrev pub row_at : ℕ → MsgRow → Row
+row_at stamp m = record { place = m.place; stamp = stamp }
 
 -- the rows without that one, where the flag says so
 abbrev pub taken_where : Bool → Row → List Row → List Row
@@ -21,11 +24,12 @@ abbrev pub TakesRow : List ℕ → Option (List ℕ) → List ℤ → ℕ → (b
 TakesRow queue consumer place stamp before after = (q : List ℕ) (c : Option (List ℕ))
     → told q c after ≡ taken_where (is_of q c (key queue consumer)) (record { place = place; stamp = stamp }) (told q c before)
 
--- a slot of these has the consumer's name
-abbrev pub is_named : List ℕ → List SlotRow → List ℕ → Option (List ℕ) → Bool
-is_named queue slots q c = list_any (λ s. is_of q c (key queue s.name)) slots
+-- the nameless consumer loses the row, where it is shown the message
+abbrev pub TakesNameless : MsgRow → ℕ → (before after : List Group) → Type 0
+TakesNameless m stamp before after = (q : List ℕ) (c : Option (List ℕ))
+    → told q c after ≡ taken_where (is_nameless m q c) (row_at stamp m) (told q c before)
 
--- each consumer that a slot of the message names loses the row
+-- each consumer to whom a slot of the message is offered loses the row
 abbrev pub TakesEach : MsgRow → ℕ → (before after : List Group) → Type 0
 TakesEach m stamp before after = (q : List ℕ) (c : Option (List ℕ))
-    → told q c after ≡ taken_where (is_named m.queue m.slots q c) (record { place = m.place; stamp = stamp }) (told q c before)
+    → told q c after ≡ taken_where (is_any_offered m.queue m.slots q c) (row_at stamp m) (told q c before)

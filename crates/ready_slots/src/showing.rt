@@ -4,7 +4,7 @@ ghost use Rattle.std.specs.List.{list_any};
 ghost use Rattle.queue_rows.specs.Dequeueing.{is_local_for};
 ghost use Rattle.queue_rows.specs.Settling.{is_ready};
 ghost use Rattle.choice_laws.specs.Entries.{shows};
-ghost use Rattle.ready_slots.specs.Putting.{offered_to};
+ghost use Rattle.ready_slots.specs.Shown.{offered_to};
 
 use payload_records::{List, Name};
 use queue_rows::{MsgRow, SlotRow};

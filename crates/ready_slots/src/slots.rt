@@ -2,7 +2,7 @@
 ghost use Rattle.std.specs.Prelude.{◌≡◌, OnOk, IfOk, [], option_copied};
 ghost use Rattle.ready_slots.specs.Edits.{Puts, Removes};
 ghost use Rattle.ready_slots.specs.Putting.{PutsEach, PutsNameless, PutsRow};
-ghost use Rattle.ready_slots.specs.Taking.{TakesEach, TakesRow};
+ghost use Rattle.ready_slots.specs.Taking.{TakesEach, TakesNameless, TakesRow};
 
 use crate::showing::{offered_to, shown};
 use payload_records::{Copied, Name};
@@ -60,20 +60,31 @@ impl ReadySlots {
         let _slot = self.index.take(queue, consumer, place, stamp);
     }
 
-    // Takes the row of each consumer out that a slot of the message names.
+    // Takes the row of the nameless consumer out, where it is shown the message: else there is none.
+    fn take_nameless(&mut self, stamp: u64, message: &MsgRow)
+        ensures { TakesNameless message.now stamp self.old self.new }
+    {
+        if shown(message, None) {
+            self.take(&message.queue, None, &message.place, stamp);
+        }
+    }
+
+    // Takes the row of each consumer out that a local and ready slot of the message names: no other has one.
     fn take_named(&mut self, stamp: u64, message: &MsgRow)
         ensures { TakesEach message.now stamp self.old self.new }
     {
         for slot in &message.slots {
-            self.take(&message.queue, slot.name.as_ref(), &message.place, stamp);
+            if let Some(name) = offered_to(slot) {
+                self.take(&message.queue, Some(name), &message.place, stamp);
+            }
         }
     }
 
-    /// A message that stood under a stamp has gone: so do its rows. It takes no memory.
+    /// A message that stood under a stamp has gone: so do its rows. It takes no memory, and looks for no row that is not there.
     pub fn remove(&mut self, stamp: u64, message: &MsgRow)
         ensures { Removes stamp message.now self.old self.new }
     {
-        self.take(&message.queue, None, &message.place, stamp);
+        self.take_nameless(stamp, message);
         self.take_named(stamp, message);
     }
 

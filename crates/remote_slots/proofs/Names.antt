@@ -10,7 +10,7 @@ use Rattle.queue_rows.specs.Settling.{is_ready}
 use Rattle.queue_rows.specs.declared.rows.SlotRow.{SlotRow}
 use Rattle.sort_index.specs.Ready.{is_of, key, names_cmp}
 use Rattle.sort_index.specs.ReadyLaws.{names_exact}
-use Rattle.ready_slots.proofs.Taking.{is_Equal, own_names}
+use Rattle.ready_slots.proofs.Standing.{is_Equal, own_names}
 use Rattle.remote_slots.specs.Putting.{is_any_for, sent_to}
 use Rattle.remote_slots.specs.Remote.{is_any_to, is_ready_to}
 

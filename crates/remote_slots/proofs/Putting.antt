@@ -13,10 +13,11 @@ use Rattle.sort_index.specs.declared.group.Group.{Group}
 use Rattle.choice_laws.specs.EditLaws.{IsFree}
 use Rattle.choice_laws.specs.Entries.{Row, row_cmp, with_row, without_row}
 use Rattle.ready_slots.specs.Edits.{entry}
-use Rattle.ready_slots.specs.Putting.{PutsRow, put_where, row_at}
-use Rattle.ready_slots.specs.Taking.{TakesRow, taken_where, told}
+use Rattle.ready_slots.specs.Putting.{PutsRow, put_where}
+use Rattle.ready_slots.specs.Taking.{TakesRow, row_at, taken_where, told}
 use Rattle.ready_slots.proofs.Putting.{put_both}
-use Rattle.ready_slots.proofs.Taking.{any_weaker, none_gone, taken_both}
+use Rattle.ready_slots.proofs.Standing.{any_weaker}
+use Rattle.ready_slots.proofs.Taking.{none_gone, taken_both}
 use Rattle.remote_slots.specs.Edits.{Puts, Removes}
 use Rattle.remote_slots.specs.Putting.{PutsEach, TakesEach, is_any_for, sent_to}
 use Rattle.remote_slots.specs.Remote.{is_any_to, is_ready_to, rows_to, stands_to}

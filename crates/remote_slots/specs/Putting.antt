@@ -7,8 +7,8 @@ use Rattle.queue_rows.specs.Settling.{is_ready}
 use Rattle.queue_rows.specs.declared.rows.MsgRow.{MsgRow}
 use Rattle.queue_rows.specs.declared.rows.SlotRow.{SlotRow}
 use Rattle.sort_index.specs.declared.group.Group.{Group}
-use Rattle.ready_slots.specs.Putting.{put_where, row_at}
-use Rattle.ready_slots.specs.Taking.{taken_where, told}
+use Rattle.ready_slots.specs.Putting.{put_where}
+use Rattle.ready_slots.specs.Taking.{row_at, taken_where, told}
 use Rattle.remote_slots.specs.Remote.{stands_to}
 
 -- where the slot goes, if it is ready

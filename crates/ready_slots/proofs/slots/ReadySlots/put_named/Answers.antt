@@ -1,6 +1,7 @@
 use Rattle.std.proofs.Common.{sym, ap, ◌∙◌, option_copied}
-use Rattle.ready_slots.specs.Putting.{is_any_offered, put_where, row_at}
-use Rattle.ready_slots.specs.Taking.{told}
+use Rattle.ready_slots.specs.Putting.{put_where}
+use Rattle.ready_slots.specs.Shown.{is_any_offered}
+use Rattle.ready_slots.specs.Taking.{row_at, told}
 use Rattle.ready_slots.proofs.Putting.{none_more, one_more}
 use Rattle.ready_slots.proofs.slots.ReadySlots.put_named.Goals as goal
 

@@ -1,7 +1,8 @@
 -- once the rows of the remaining slots are put in too, those of all slots are
 use Rattle.std.proofs.Common.{◌≡◌, ℕ, List, Option}
-use Rattle.ready_slots.specs.Putting.{is_any_offered, put_where, row_at}
-use Rattle.ready_slots.specs.Taking.{told}
+use Rattle.ready_slots.specs.Putting.{put_where}
+use Rattle.ready_slots.specs.Shown.{is_any_offered}
+use Rattle.ready_slots.specs.Taking.{row_at, told}
 use Rattle.ready_slots.proofs.slots.ReadySlots.put_named.Given as goal
 
 abbrev pub invariant-loop-slot : goal.invariant-loop-slot

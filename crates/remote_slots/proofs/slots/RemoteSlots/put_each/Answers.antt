@@ -1,6 +1,6 @@
 use Rattle.std.proofs.Common.{Some, sym, ap, ◌∙◌}
-use Rattle.ready_slots.specs.Putting.{put_where, row_at}
-use Rattle.ready_slots.specs.Taking.{told}
+use Rattle.ready_slots.specs.Putting.{put_where}
+use Rattle.ready_slots.specs.Taking.{row_at, told}
 use Rattle.remote_slots.specs.Remote.{is_any_to}
 use Rattle.remote_slots.proofs.Putting.{puts_one}
 use Rattle.remote_slots.proofs.slots.RemoteSlots.put_each.Goals as goal

@@ -1,7 +1,7 @@
 -- once the rows of the remaining slots are put in too, those of all slots are
 use Rattle.std.proofs.Common.{◌≡◌, ℕ, List, Some}
-use Rattle.ready_slots.specs.Putting.{put_where, row_at}
-use Rattle.ready_slots.specs.Taking.{told}
+use Rattle.ready_slots.specs.Putting.{put_where}
+use Rattle.ready_slots.specs.Taking.{row_at, told}
 use Rattle.remote_slots.specs.Remote.{is_any_to}
 use Rattle.remote_slots.proofs.slots.RemoteSlots.put_each.Given as goal
 

@@ -1,6 +1,5 @@
 use Rattle.std.proofs.Common.{Some, sym, ap, ◌∙◌}
-use Rattle.ready_slots.specs.Putting.{row_at}
-use Rattle.ready_slots.specs.Taking.{taken_where, told}
+use Rattle.ready_slots.specs.Taking.{row_at, taken_where, told}
 use Rattle.remote_slots.specs.Putting.{is_any_for}
 use Rattle.remote_slots.proofs.Putting.{takes_one}
 use Rattle.remote_slots.proofs.slots.RemoteSlots.take_each.Goals as goal

@@ -1,7 +1,6 @@
 -- once the remaining slots' rows are taken too, those of all slots are
 use Rattle.std.proofs.Common.{◌≡◌, ℕ, List, Some}
-use Rattle.ready_slots.specs.Putting.{row_at}
-use Rattle.ready_slots.specs.Taking.{taken_where, told}
+use Rattle.ready_slots.specs.Taking.{row_at, taken_where, told}
 use Rattle.remote_slots.specs.Putting.{is_any_for}
 use Rattle.remote_slots.proofs.slots.RemoteSlots.take_each.Given as goal
 
