@@ -5,7 +5,8 @@ use crate::counts::Counts;
 use crate::{Disk, Failed, LENGTH_LIMIT};
 use std::alloc::{AllocError, Global};
 use std::fs::{OpenFile, OpenOptions};
-use std::io::{ErrorKind, Read, Seek, SeekFrom, Write};
+use std::io::ErrorKind;
+use std::os::unix::fs::FileExt;
 use std::path::Path;
 use std::rt::Files;
 use std::{fs, io};
@@ -17,7 +18,10 @@ pub struct FileDisk<R: Files + Drop> {
     counts: Counts,
 }
 
-impl<R: Files + Drop> FileDisk<R> {
+impl<R: Files + Drop> FileDisk<R>
+where
+    R::File: FileExt,
+{
     /// The file at a path. Nothing is opened yet.
     pub fn at(files: R, alloc: Global, path: &str) -> Result<FileDisk<R>, AllocError>
         ensures calls { IfOk result (λ disk. ⟦<FileDisk<R> as Disk>⟧.calls disk ≡ 0) }
@@ -45,33 +49,35 @@ struct HostFile<R: Files + Drop> {
     is_folder_synced: bool,
 }
 
-impl<R: Files + Drop> HostFile<R> {
-    // The open file, at a place.
-    fn open_at(&mut self, at: u64) -> io::Result<&mut R::File> {
+impl<R: Files + Drop> HostFile<R>
+where
+    R::File: FileExt,
+{
+    // The open file. What is read and written is told its place with each call, so that no call sets one.
+    fn open(&mut self) -> io::Result<&R::File> {
         if self.file.is_none() {
             let mut how = OpenOptions::new();
             how.read(true).write(true).create(true);
             self.file = Some(how.open(&self.files, self.path.as_str())?);
         }
-        let Some(file) = &mut self.file else {
-            return Err(io::Error::from(ErrorKind::NotFound));
-        };
-        file.seek(SeekFrom::Start(at))?;
-        Ok(file)
+        match &self.file {
+            Some(file) => Ok(file),
+            None => Err(io::Error::from(ErrorKind::NotFound)),
+        }
     }
 
     fn measure(&mut self) -> io::Result<u64> {
-        Ok(self.open_at(0)?.metadata()?.len())
+        Ok(self.open()?.metadata()?.len())
     }
 
     // Reads until the buffer is full or the file ends. An interrupted read is made again.
     fn fill(&mut self, at: u64, into: &mut [u8]) -> io::Result<usize>
         ensures { IfOk result (λ n. n ≤ length into.old) }
     {
-        let file = self.open_at(at)?;
+        let file = self.open()?;
         let mut filled = 0;
         for _ in 0..u64::MAX {
-            match file.read(&mut into[filled..]) {
+            match file.read_at(&mut into[filled..], at.wrapping_add(filled as u64)) {
                 Ok(0) => return Ok(filled),
                 Ok(count) => filled += count,
                 Err(error) if error.kind() == ErrorKind::Interrupted => {}
@@ -82,12 +88,12 @@ impl<R: Files + Drop> HostFile<R> {
     }
 
     fn put(&mut self, at: u64, from: &[u8]) -> io::Result<()> {
-        self.open_at(at)?.write_all(from)
+        self.open()?.write_all_at(from, at)
     }
 
     // The file's bytes and length, and once its name in its folder.
     fn flush(&mut self) -> io::Result<()> {
-        sync_data(self.open_at(0)?)?;
+        sync_data(self.open()?)?;
         if !self.is_folder_synced {
             sync_folder(&self.files, self.path.as_str())?;
             self.is_folder_synced = true;
@@ -127,7 +133,10 @@ fn sync_all<F: OpenFile>(file: &F) -> io::Result<()> {
     Err(io::Error::from(ErrorKind::Interrupted))
 }
 
-impl<R: Files + Drop> Disk for FileDisk<R> {
+impl<R: Files + Drop> Disk for FileDisk<R>
+where
+    R::File: FileExt,
+{
     ghost use Rattle.std.specs.Prelude.{None};
     ghost use Rattle.aq_disk.specs.Disk.{untold};
 

@@ -1,6 +1,7 @@
 // The disk in memory call by call with its images, a write and its sync on it, and a file.
 use aq_disk::{Disk, Failed, FileDisk, Fill, LENGTH_LIMIT, MemoryDisk, write_synced};
 use std::alloc::{AllocError, Global};
+use std::os::unix::fs::FileExt;
 use std::rt::Files;
 use std::{fs, io};
 
@@ -225,7 +226,10 @@ fn a_synced_write_is_in_each_image(rt: HostRuntime) -> Result<(), AllocError> {
 const PATH: &str = "aq_disk.test";
 
 // What is written stands there, and nothing past its end.
-fn keeps<R: Files + Drop>(disk: &mut FileDisk<R>) -> bool {
+fn keeps<R: Files + Drop>(disk: &mut FileDisk<R>) -> bool
+where
+    R::File: FileExt,
+{
     let done = [
         disk.write_at(0, b"abcdef"),
         disk.write_at(4, b"EFG"),
@@ -236,16 +240,25 @@ fn keeps<R: Files + Drop>(disk: &mut FileDisk<R>) -> bool {
     done == [Ok(()), Ok(()), Ok(())] && count == Ok(5) && buffer == *b"cdEFG..."
 }
 
-fn has_a_limit<R: Files + Drop>(disk: &mut FileDisk<R>) -> bool {
+fn has_a_limit<R: Files + Drop>(disk: &mut FileDisk<R>) -> bool
+where
+    R::File: FileExt,
+{
     disk.write_at(LENGTH_LIMIT, b"x") == Err(Failed)
         && disk.write_at(LENGTH_LIMIT + 1, b"") == Err(Failed)
 }
 
-fn has_counted<R: Files + Drop>(disk: &FileDisk<R>, calls: u64, faults: u64) -> bool {
+fn has_counted<R: Files + Drop>(disk: &FileDisk<R>, calls: u64, faults: u64) -> bool
+where
+    R::File: FileExt,
+{
     disk.calls() == calls && disk.faults() == faults
 }
 
-fn is_a_disk<R: Files + Drop>(disk: &mut FileDisk<R>) -> bool {
+fn is_a_disk<R: Files + Drop>(disk: &mut FileDisk<R>) -> bool
+where
+    R::File: FileExt,
+{
     disk.len() == Ok(0) && keeps(disk) && has_a_limit(disk) && has_counted(disk, 7, 2)
 }
 
