@@ -173,5 +173,9 @@ pub(crate) fn changes_at<T: MessageTables>(
         ++ flat_map (λ rank. given (due_purge w) (slice_get w.tables.messages rank)) ranks.now)
         ++ flat_map (λ rank. given (own_settling w) (slice_get w.tables.messages rank)) ranks.now) }
 {
+    // (mostly nothing is due, in any turn)
+    if ranks.is_empty() {
+        return Ok(List::new(watching.tables.seen.allocator()));
+    }
     found_at(store, watching, ranks)?.joined()
 }
