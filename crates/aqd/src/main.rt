@@ -7,8 +7,8 @@ use aq_disk::FileDisk;
 use aq_run::serve;
 use std::alloc::{AllocError, Global};
 use std::env::{Env, FillError};
-use std::io;
 use std::process::ExitCode;
+use std::{io, mem};
 
 /// The files of the two databases, in the current folder.
 const HOME_FILE: &str = "home.aq";
@@ -75,5 +75,8 @@ fn main(rt: HostRuntime) -> ExitCode {
     let mut out = WriterSink::of(io::writer(&rt));
     let clock = SystemClock::new(machine);
     let outcome = serve(alloc, &words, &mut input, &mut out, home, away, clock);
-    ExitCode::from(outcome.status)
+    let status = outcome.status;
+    // The process ends with its memory: to take a history apart entry by entry first would cost a long run some hundredths of its time.
+    mem::forget(outcome);
+    ExitCode::from(status)
 }
