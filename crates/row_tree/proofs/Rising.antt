@@ -37,7 +37,7 @@ all_kept standing falls x (y ∷ ys) late before =
     ap (λ o. cond (not (is_eq o)) (y ∷ filter (λ z. not (is_eq (standing z))) ys) (filter (λ z. not (is_eq (standing z))) ys)) past
     ∙ ap (λ zs. y ∷ zs) (all_kept standing falls x ys late before.1)
 
-none_found : {T : Type 0} {order : T → T → Ordering} (standing : T → Ordering) → Falls order standing → (x : T) (xs : List T) → is_lt (standing x) ≡ false → IsBeforeAll order x xs
+pub none_found : {T : Type 0} {order : T → T → Ordering} (standing : T → Ordering) → Falls order standing → (x : T) (xs : List T) → is_lt (standing x) ≡ false → IsBeforeAll order x xs
     → find (λ y. is_eq (standing y)) xs ≡ None
 none_found standing falls x [] late before = refl
 none_found standing falls x (y ∷ ys) late before =

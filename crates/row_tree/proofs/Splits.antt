@@ -19,7 +19,7 @@ pub split_right : {T : Type 0} (p : T → Bool) (l : List T) (k : T) (r : List T
 split_right p [] k r split = split.1
 split_right p (x ∷ l) k r split = split_right p l k r split.1
 
-head_passes : {T : Type 0} (p : T → Bool) (b : Bool) (l : List T) (k : T) (r : List T) → (b ≡ false → NonePass p (l ++ (k ∷ r))) → p k ≡ true → b ≡ true
+pub head_passes : {T : Type 0} (p : T → Bool) (b : Bool) (l : List T) (k : T) (r : List T) → (b ≡ false → NonePass p (l ++ (k ∷ r))) → p k ≡ true → b ≡ true
 head_passes p true l k r later passes = refl
 head_passes p false l k r later passes = let fails = none_at p l k r (later refl) in cc
 

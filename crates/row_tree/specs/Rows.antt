@@ -1,5 +1,5 @@
 -- The rows of a tree.
-use Rattle.std.specs.Prelude.{◌≡◌, List, [], ◌++◌, Option, Some, None, IsSome, Box}
+use Rattle.std.specs.Prelude.{List, [], ◌++◌, Option, Some, None, IsSome, Box}
 use Rattle.std.specs.Option.{option_to_list}
 use Rattle.std.specs.declared.alloc.Global.{Global}
 use Rattle.row_tree.specs.declared.tree.Fork.{Fork}

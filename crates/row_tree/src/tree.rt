@@ -1,10 +1,10 @@
 // A tree of rows, which contracts see as the list of its rows.
 ghost use Rattle.std.specs.Prelude.{◌≡◌, ◌↔◌, IsTrue, ◌+◌, ◌-◌, ◌<◌, ◌≤◌, [], ◌∷◌, ◌++◌, length, insert, remove, slice_get, option_copied, Some, IsSome, IfSome, IfNone, OnOk, OnErr};
 ghost use Rattle.std.specs.Fn.{CalledAt};
-ghost use Rattle.std.specs.List.{prefix_len};
+ghost use Rattle.std.specs.List.{find, prefix_len};
 ghost use Rattle.std.specs.List.Retain.{IsFiltered};
 ghost use Rattle.std.specs.Option.{option_to_list};
-ghost use Rattle.row_tree.specs.Bounds.{is_before};
+ghost use Rattle.row_tree.specs.Bounds.{is_before, is_not_before};
 ghost use Rattle.row_tree.specs.Edits.{edit_at};
 ghost use Rattle.row_tree.specs.Split.{IsSplit};
 
@@ -142,6 +142,28 @@ impl<T: InOrder> Tree<T> {
             fork.left.len() + 1 + fork.right.rank(bound)
         } else {
             fork.left.rank(bound)
+        }
+    }
+}
+
+impl<T: InOrder> Tree<T> {
+    /// The first row that does not stand before the bound, or None where each stands before it. It goes down once, and takes no
+    /// memory.
+    pub fn first_from<B: Bound<T>>(&self, bound: &B) -> Option<&T>
+        requires { IsSplit (is_before (B.standing bound.now)) self.now }
+        ensures { option_copied result ≡ find (is_not_before (B.standing bound.now)) self.now }
+    {
+        let Some(fork) = &self.root else {
+            return None;
+        };
+        let fork: &Fork<T> = fork;
+        let Some(row) = &fork.row else { unreachable!() };
+        if bound.standing(row).is_lt() {
+            return fork.right.first_from(bound);
+        }
+        match fork.left.first_from(bound) {
+            None => Some(row),
+            found => found,
         }
     }
 }
