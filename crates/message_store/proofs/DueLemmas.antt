@@ -1,21 +1,19 @@
 -- The rows of what is due, when a message goes and when one comes, and what they name.
-use Rattle.std.proofs.Common.{◌≡◌, ◌≢◌, ℕ, ◌==◌, ◌≤◌, List, [], ◌∷◌, Bool, true, false, cond, Option, Some, None, refl, sym, ap, ◌∙◌, subst, arith, inl, inr, All}
-use Rattle.std.specs.Prelude.{◌&&◌, ◌||◌, not, find, IfSome}
+use Rattle.std.proofs.Common.{◌≡◌, ◌≢◌, ℕ, ◌==◌, ◌≤◌, List, [], ◌∷◌, Bool, true, false, cond, Option, Some, refl, sym, ap, ◌∙◌, subst, arith, All}
+use Rattle.std.specs.Prelude.{◌&&◌, ◌||◌, not, find}
 use Rattle.std.specs.List.{AllByRecursion}
 use Rattle.std.specs.Option.{option_map_or}
 use Rattle.std.specs.Str.{bytes_eq}
-use Rattle.std.proofs.lemmas.Bool.{cases_Bool, false_from_ne_true, or_left, or_right}
+use Rattle.std.proofs.lemmas.Bool.{false_from_ne_true, or_left, or_right}
 use Rattle.std.proofs.lemmas.List.Elements.{All-head, All-tail}
 use Rattle.std.proofs.lemmas.Option.{none-some}
 use Rattle.std.proofs.lemmas.Slice.Eq.{bytes_eq-Decides}
-use Rattle.due_index.specs.Due.{DueRows}
 use Rattle.due_index.specs.declared.row.DueRow.{DueRow}
 use Rattle.due_slots.specs.Edits.{joined, without}
 use Rattle.due_slots.specs.Indexed.{has}
 use Rattle.due_slots.specs.Laws.{JoinedTells, RowsHaveItsNumber, RowsNameDue, WithoutTells}
 use Rattle.due_slots.specs.Named.{NamesDue}
 use Rattle.due_slots.specs.Rows.{rows_of}
-use Rattle.queue_rows.specs.Rows.{find_message}
 use Rattle.queue_rows.specs.declared.rows.MsgRow.{MsgRow}
 use Rattle.queue_rows.specs.declared.tables.Tables.{Tables}
 use Rattle.message_store.specs.DueKept.{HasRows, keeps_in, retention_in}

@@ -1,6 +1,6 @@
 -- Messages under stamps: what edits of both lists make of the entries, and what becomes of an index of their slots.
 use Rattle.std.proofs.Common.{◌≡◌, ℕ, zero, suc, ◌==◌, ◌<◌, List, [], ◌∷◌, ◌++◌, ◌+◌, length, take, Bool, true, false, cond, Option, Some, None, nat_lt, refl, sym, ap, ◌∙◌, subst, arith, inl, inr, ◌≤◌}
-use Rattle.std.specs.Prelude.{find, insert, option_and_then, option_map, position, remove, slice_get, slice_set, IfSome}
+use Rattle.std.specs.Prelude.{insert, option_and_then, position, remove, slice_get, slice_set}
 use Rattle.std.specs.List.{AllByRecursion, position_or_len}
 use Rattle.std.proofs.lemmas.Bool.{cases_Bool, ltb-false}
 use Rattle.std.proofs.lemmas.List.Edits.{insert_end}

@@ -1,5 +1,5 @@
 -- What edits of messages and of an index of their slots leave, as the edits are made.
-use Rattle.std.proofs.Common.{◌≡◌, ◌≢◌, ◌==◌, ◌+◌, ℕ, zero, suc, ◌<◌, ◌≤◌, All, Bool, true, false, cond, List, [], ◌∷◌, ◌++◌, length, Option, Some, None, refl, sym, ap, ◌∙◌, subst, arith, inl, inr, eq-eqb}
+use Rattle.std.proofs.Common.{◌≡◌, ◌≢◌, ◌==◌, ◌+◌, ℕ, zero, suc, ◌<◌, ◌≤◌, All, Bool, true, cond, List, [], ◌∷◌, ◌++◌, length, Option, Some, None, refl, sym, ap, ◌∙◌, subst, arith, inl, inr, eq-eqb}
 use Rattle.std.specs.Prelude.{count_by, insert, remove, slice_get, slice_set, IfSome}
 use Rattle.std.specs.List.{AllByRecursion}
 use Rattle.std.proofs.lemmas.Bool.{cases_Bool, eqb-false}
@@ -11,7 +11,7 @@ use Rattle.message_store.specs.DueKept.{Gains, HasRows, IfDue, Loses, keeps_in}
 use Rattle.message_store.specs.declared.due_cache.KeepRow.{KeepRow}
 use Rattle.message_store.proofs.MessageLemmas.{count_of_ids}
 use Rattle.std.specs.Option.{option_map_or}
-use Rattle.std.proofs.lemmas.Option.{slice_get-get_or, none-some, slice_get_past, slice_get_within}
+use Rattle.std.proofs.lemmas.Option.{none-some}
 use Rattle.queue_rows.specs.declared.rows.MsgRow.{MsgRow}
 use Rattle.queue_rows.proofs.Sessions.{get_set-same}
 use Rattle.choice_laws.specs.Entries.{Entry}

@@ -11,3 +11,4 @@ pub mod SlotLemmas
 pub mod StampLemmas
 pub mod StoredLemmas
 pub mod SuffixLemmas
+pub mod TakenLemmas

@@ -1,11 +1,12 @@
 // Commits made in open tables.
-ghost use Rattle.std.specs.Prelude.{◌≡◌, drop};
+ghost use Rattle.std.specs.Prelude.{◌≡◌, IfSome, drop};
 ghost use Rattle.queue_rows.specs.Rows.{find_message};
 ghost use Rattle.queue_rows.specs.Tables.{without_queue, without_table, after_change, after_all, after, move_some};
 ghost use Rattle.queue_rows.specs.declared.change.Change.TheVariants as changes;
 ghost use Rattle.message_store.specs.Open.{held, room_of};
 ghost use Rattle.message_store.specs.Room.{next_slots, room_after};
 ghost use Rattle.message_store.specs.Prepared.{HasFewerSlots, IsReady, AreReady};
+ghost use Rattle.message_store.specs.Taken.{TakesWhole};
 
 use crate::enqueued::{enqueue, move_message};
 use crate::open::OpenTables;
@@ -131,6 +132,40 @@ fn apply_all(opened: &mut OpenTables, changes: List<Change>, alloc: Global)
     }
 }
 
+// The message of which the changes take a slot, with which it goes, where they do nothing else.
+fn taken_whole(changes: &List<Change>) -> Option<u64>
+    ensures { IfSome result (λ id. TakesWhole id changes.now) }
+{
+    let Some(Change::Done { id, .. }) = changes.get(0) else {
+        return None;
+    };
+    let Some(Change::Purged { id: gone }) = changes.get(1) else {
+        return None;
+    };
+    if changes.len() == 2 && *id == *gone {
+        Some(*id)
+    } else {
+        None
+    }
+}
+
+fn purge(opened: &mut OpenTables, id: u64)
+    ensures { held opened.new ≡ after_change (held opened.old) (changes.Purged id) }
+{
+    opened.messages.remove_message(id);
+}
+
+// Makes the changes, in order. Of a message that goes nothing is changed before.
+fn apply_in_order(opened: &mut OpenTables, changes: List<Change>, alloc: Global)
+    requires { AreReady (held opened.old) (room_of opened.old) changes }
+    ensures { held opened.new ≡ after_all (held opened.old) changes }
+{
+    match taken_whole(&changes) {
+        Some(id) => purge(opened, id),
+        None => apply_all(opened, changes, alloc),
+    }
+}
+
 /// Makes the changes of a commit, in order, at its moment. It needs no memory.
 #[tactic(auto, unfolding(queue_rows::specs::Tables::after))]
 pub(crate) fn apply(opened: &mut OpenTables, commit: Commit, alloc: Global)
@@ -138,6 +173,6 @@ pub(crate) fn apply(opened: &mut OpenTables, commit: Commit, alloc: Global)
     ensures { held opened.new ≡ after (held opened.old) commit }
 {
     let Commit { moment, changes } = commit;
-    apply_all(opened, changes, alloc);
+    apply_in_order(opened, changes, alloc);
     opened.latest = opened.latest.max(moment);
 }

@@ -1,4 +1,4 @@
-use Rattle.std.proofs.Common.{◌≡◌, ◌<◌, List, Bool, length, not, filter, ap, sym, subst, ◌∙◌}
+use Rattle.std.proofs.Common.{◌<◌, List, Bool, length, not, filter, ap, sym, subst, ◌∙◌}
 use Rattle.std.specs.Prelude.{position}
 use Rattle.std.specs.Str.{bytes_eq}
 use Rattle.message_store.specs.Rows.{Rows}

@@ -1,4 +1,4 @@
-use Rattle.std.proofs.Common.{ap, length, sym, subst, ◌∙◌}
+use Rattle.std.proofs.Common.{sym, subst}
 use Rattle.message_store.specs.Beside.{room_beside}
 use Rattle.message_store.specs.Prepared.{HasSlotRooms}
 use Rattle.message_store.proofs.ReadyLemmas.{are_ready}

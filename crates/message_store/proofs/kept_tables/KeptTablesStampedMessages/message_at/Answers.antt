@@ -1,9 +1,4 @@
-use Rattle.std.proofs.Common.{None, Some, ap, sym, subst, ◌∙◌}
-use Rattle.std.specs.Prelude.{option_and_then, slice_get}
-use Rattle.queue_rows.specs.declared.rows.MsgRow.{MsgRow}
-use Rattle.choice_laws.specs.Entries.{message_at}
-use Rattle.message_store.specs.Kept.{Kept}
-use Rattle.message_store.specs.Stamped.{entries_of}
+use Rattle.std.proofs.Common.{None, Some, sym, ◌∙◌}
 use Rattle.message_store.proofs.EntryLemmas.{as_long, message_is}
 use Rattle.message_store.proofs.kept_tables.KeptTablesStampedMessages.message_at.Goals as goal
 

@@ -1,10 +1,7 @@
-use Rattle.std.proofs.Common.{◌≡◌, List, ap, sym, subst, ◌∙◌, ◌≤◌, ◌+◌}
+use Rattle.std.proofs.Common.{List, ap, sym, subst, ◌∙◌}
 use Rattle.slot_marks.specs.Marks.{marks_of}
-use Rattle.choice_laws.specs.Entries.{messages_of}
-use Rattle.queue_rows.specs.Dequeueing.{Look}
 use Rattle.queue_rows.specs.declared.rows.MsgRow.{MsgRow}
 use Rattle.message_choice.specs.Asking.{AreSound, IsLookOf}
-use Rattle.message_store.specs.Stamped.{entries_of}
 use Rattle.message_store.specs.Stored.{Stored}
 use Rattle.message_store.proofs.EntryLemmas.{entries_rise, messages_are}
 use Rattle.message_store.proofs.prepared_store.PreparedStoreChoosesMessages.choose.Goals as goal

@@ -1,4 +1,4 @@
-use Rattle.std.proofs.Common.{[], ◌∷◌, ◌++◌, length, refl, sym, ap, ◌∙◌}
+use Rattle.std.proofs.Common.{[], ◌∷◌, ◌++◌, length, refl, ap, ◌∙◌}
 use Rattle.std.proofs.lemmas.List.{length-map}
 use Rattle.message_choice.specs.Indexed.{IndexesReady}
 use Rattle.message_store.proofs.EntryLemmas.{all_gone, as_long, index_grown, longer, split_on, stamp_left}

@@ -1,4 +1,4 @@
-use Rattle.std.proofs.Common.{[], ◌∷◌, ◌++◌, length, refl, sym, ap, ◌∙◌}
+use Rattle.std.proofs.Common.{[], ◌∷◌, ◌++◌, length, refl, ap, ◌∙◌}
 use Rattle.std.proofs.lemmas.List.{length-map}
 use Rattle.remote_slots.specs.Remote.{IndexesRemote}
 use Rattle.message_store.proofs.EntryLemmas.{all_gone, as_long, index_grown, longer, split_on, stamp_left}
