@@ -7,6 +7,7 @@ use std::alloc::Global;
 use std::fs;
 use std::fs::OpenFile;
 use std::io::Write;
+use std::os::unix::fs::FileExt;
 use std::rt::Files;
 use std::time::{Clock, Instant};
 
@@ -20,7 +21,10 @@ const LENGTH: usize = 1;
 
 /// A journal with frames of so many bodies, a plain file beside it, and how many nanoseconds each has taken.
 #[derive(Drop)]
-struct Lane<'a, R: Files> {
+struct Lane<'a, R: Files>
+where
+    R::File: FileExt,
+{
     bodies: usize,
     journal: Journal<FileDisk<&'a R>>,
     plain: R::File,
@@ -49,7 +53,10 @@ fn opened<'a, R: Files>(
     alloc: Global,
     folder: &str,
     bodies: usize,
-) -> Result<Lane<'a, R>, Fault> {
+) -> Result<Lane<'a, R>, Fault>
+where
+    R::File: FileExt,
+{
     let grown = path_in(alloc, folder, "grown", bodies)?;
     let plain = path_in(alloc, folder, "plain", bodies)?;
     let frame = plain_frame(alloc, bodies)?;
@@ -70,7 +77,10 @@ fn opened<'a, R: Files>(
 
 /// Appends one frame to the journal, and writes as many bytes to the plain file. They take turns, since what a
 /// sync costs changes from one moment to the next.
-fn step<R: Files + Clock>(rt: &R, lane: &mut Lane<'_, R>) -> Result<(), Fault> {
+fn step<R: Files + Clock>(rt: &R, lane: &mut Lane<'_, R>) -> Result<(), Fault>
+where
+    R::File: FileExt,
+{
     let begun = Instant::now(rt)?;
     for _ in 0..lane.bodies {
         lane.journal.prepare(&BODY)?;
@@ -88,7 +98,10 @@ fn a_second(count: u64, nanos: u64) -> u64 {
     count.saturating_mul(1_000_000_000) / nanos.max(1)
 }
 
-fn print_lane<R: Files + Print>(rt: &R, lane: &Lane<'_, R>, appends: u64) -> Result<(), Fault> {
+fn print_lane<R: Files + Print>(rt: &R, lane: &Lane<'_, R>, appends: u64) -> Result<(), Fault>
+where
+    R::File: FileExt,
+{
     let bodies = lane.bodies;
     let rate = a_second(appends, lane.grown);
     let plain = a_second(appends, lane.written);
@@ -101,13 +114,19 @@ fn print_lane<R: Files + Print>(rt: &R, lane: &Lane<'_, R>, appends: u64) -> Res
 
 /// Lanes of frames with 1, 10 and 100 bodies, which take turns too.
 #[derive(Drop)]
-struct Lanes<'a, R: Files> {
+struct Lanes<'a, R: Files>
+where
+    R::File: FileExt,
+{
     one: Lane<'a, R>,
     ten: Lane<'a, R>,
     hundred: Lane<'a, R>,
 }
 
-fn opened_all<'a, R: Files>(rt: &'a R, alloc: Global, folder: &str) -> Result<Lanes<'a, R>, Fault> {
+fn opened_all<'a, R: Files>(rt: &'a R, alloc: Global, folder: &str) -> Result<Lanes<'a, R>, Fault>
+where
+    R::File: FileExt,
+{
     Ok(Lanes {
         one: opened(rt, alloc, folder, 1)?,
         ten: opened(rt, alloc, folder, 10)?,
@@ -115,7 +134,10 @@ fn opened_all<'a, R: Files>(rt: &'a R, alloc: Global, folder: &str) -> Result<La
     })
 }
 
-fn run<R: Files + Clock>(rt: &R, lanes: &mut Lanes<'_, R>, appends: u64) -> Result<(), Fault> {
+fn run<R: Files + Clock>(rt: &R, lanes: &mut Lanes<'_, R>, appends: u64) -> Result<(), Fault>
+where
+    R::File: FileExt,
+{
     for _ in 0..appends {
         step(rt, &mut lanes.one)?;
         step(rt, &mut lanes.ten)?;
@@ -124,7 +146,10 @@ fn run<R: Files + Clock>(rt: &R, lanes: &mut Lanes<'_, R>, appends: u64) -> Resu
     Ok(())
 }
 
-fn print_all<R: Files + Print>(rt: &R, lanes: &Lanes<'_, R>, appends: u64) -> Result<(), Fault> {
+fn print_all<R: Files + Print>(rt: &R, lanes: &Lanes<'_, R>, appends: u64) -> Result<(), Fault>
+where
+    R::File: FileExt,
+{
     print_lane(rt, &lanes.one, appends)?;
     print_lane(rt, &lanes.ten, appends)?;
     print_lane(rt, &lanes.hundred, appends)?;
@@ -142,7 +167,10 @@ pub fn report<R: Files + Clock + Print>(
     alloc: Global,
     folder: &str,
     appends: u64,
-) -> Result<(), Fault> {
+) -> Result<(), Fault>
+where
+    R::File: FileExt,
+{
     let mut lanes = opened_all(rt, alloc, folder)?;
     match run(rt, &mut lanes, appends) {
         Ok(()) => print_all(rt, &lanes, appends),

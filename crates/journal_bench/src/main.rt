@@ -7,6 +7,7 @@ mod fault;
 mod mounts;
 
 use fault::Fault;
+use std::os::unix::fs::FileExt;
 use std::rt::Files;
 use std::time::{Clock, Instant};
 use std::{env, io};
@@ -43,7 +44,10 @@ fn report<R: Files + Clock + Print + AllocGlobal>(
     rt: &R,
     folder: &str,
     sizes: &Sizes,
-) -> Result<(), Fault> {
+) -> Result<(), Fault>
+where
+    R::File: FileExt,
+{
     appends::report(rt, rt.alloc(), folder, sizes.appends)?;
     mounts::report(rt, folder, sizes.frames)?;
     commits::report(rt, rt.alloc(), sizes.changes)

@@ -6,6 +6,7 @@ use payload_records::List;
 use redo_journal::{FrameAt, Journal};
 use std::alloc::Global;
 use std::fs;
+use std::os::unix::fs::FileExt;
 use std::rt::Files;
 use std::time::{Clock, Instant};
 
@@ -36,7 +37,10 @@ fn mount_time<R: Files + Clock>(
     alloc: Global,
     path: &str,
     wanted: u64,
-) -> Result<u64, Fault> {
+) -> Result<u64, Fault>
+where
+    R::File: FileExt,
+{
     let begun = Instant::now(rt)?;
     let disk = FileDisk::at(rt, alloc, path)?;
     let Ok((_, frames)) = Journal::mount(alloc, disk) else {
@@ -126,7 +130,10 @@ pub fn report<R: Files + Clock + Print + AllocGlobal>(
     rt: &R,
     folder: &str,
     frames: u64,
-) -> Result<(), Fault> {
+) -> Result<(), Fault>
+where
+    R::File: FileExt,
+{
     let mut path = String::from_str(rt.alloc(), folder)?;
     path.push_str("/mounted")?;
     let path = path.as_str();
