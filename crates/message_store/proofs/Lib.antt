@@ -2,6 +2,7 @@ pub mod DueLemmas
 pub mod EntryLemmas
 pub mod FindLemmas
 pub mod IndexLemmas
+pub mod LowLemmas
 pub mod MessageLemmas
 pub mod NamedLemmas
 pub mod OthersLemmas

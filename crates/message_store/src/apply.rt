@@ -1,12 +1,12 @@
 // Commits made in open tables.
-ghost use Rattle.std.specs.Prelude.{◌≡◌, IfSome, drop};
+ghost use Rattle.std.specs.Prelude.{◌≡◌, ◌≤◌, IsTrue, true, drop, length};
 ghost use Rattle.queue_rows.specs.Rows.{find_message};
 ghost use Rattle.queue_rows.specs.Tables.{without_queue, without_table, after_change, after_all, after, move_some};
 ghost use Rattle.queue_rows.specs.declared.change.Change.TheVariants as changes;
 ghost use Rattle.message_store.specs.Open.{held, room_of};
 ghost use Rattle.message_store.specs.Room.{next_slots, room_after};
 ghost use Rattle.message_store.specs.Prepared.{HasFewerSlots, IsReady, AreReady};
-ghost use Rattle.message_store.specs.Taken.{TakesWhole};
+ghost use Rattle.message_store.specs.Taken.{goes_with, are_taken, TakesWhole};
 
 use crate::enqueued::{enqueue, move_message};
 use crate::open::OpenTables;
@@ -122,48 +122,67 @@ fn apply_change(opened: &mut OpenTables, change: Change, alloc: Global)
     }
 }
 
-fn apply_all(opened: &mut OpenTables, changes: List<Change>, alloc: Global)
-    requires { AreReady (held opened.old) (room_of opened.old) changes }
-    ensures { held opened.new ≡ after_all (held opened.old) changes }
+// Makes the changes behind the first so many, in order.
+fn apply_behind(opened: &mut OpenTables, changes: Vec<Change>, first: usize, alloc: Global)
+    requires within { first ≤ length changes.items }
+    requires ready { AreReady (held opened.old) (room_of opened.old) (drop first changes.items) }
+    ensures { held opened.new ≡ after_all (held opened.old) (drop first changes.items) }
 {
-    let mut changes = changes.into_vec();
-    for change in changes.drain(..) {
+    let mut changes = changes;
+    for change in changes.drain(first..) {
         apply_change(opened, change, alloc);
     }
 }
 
-// The message of which the changes take a slot, with which it goes, where they do nothing else.
-fn taken_whole(changes: &List<Change>) -> Option<u64>
-    ensures { IfSome result (λ id. TakesWhole id changes.now) }
+// Whether a slot of a message is done, and then the message goes.
+fn goes_with(done: &Change, gone: &Change) -> bool
+    ensures { IsTrue result → goes_with done.now gone.now ≡ true }
 {
-    let Some(Change::Done { id, .. }) = changes.get(0) else {
-        return None;
+    let Change::Done { id, .. } = done else {
+        return false;
     };
-    let Some(Change::Purged { id: gone }) = changes.get(1) else {
-        return None;
+    let Change::Purged { id: purged } = gone else {
+        return false;
     };
-    if changes.len() == 2 && *id == *gone {
-        Some(*id)
+    *id == *purged
+}
+
+fn are_taken(dones: &[Change], gone: &[Change]) -> bool
+    requires { length dones.now ≡ length gone.now }
+    ensures { IsTrue result → are_taken dones.now gone.now ≡ true }
+{
+    for at in 0..dones.len() {
+        if !goes_with(&dones[at], &gone[at]) {
+            return false;
+        }
+    }
+    true
+}
+
+// Of how many messages, from the first change on, a slot is done, where all of these messages then go in the same order and nothing
+// else is changed; none where it is not so.
+fn count_taken(changes: &[Change]) -> usize
+    ensures within { result ≤ length changes.now }
+    ensures taken { TakesWhole result changes.now }
+{
+    let half = changes.len() / 2;
+    let (dones, gone) = changes.split_at(half);
+    if dones.len() == gone.len() && are_taken(dones, gone) {
+        half
     } else {
-        None
+        0
     }
 }
 
-fn purge(opened: &mut OpenTables, id: u64)
-    ensures { held opened.new ≡ after_change (held opened.old) (changes.Purged id) }
-{
-    opened.messages.remove_message(id);
-}
-
-// Makes the changes, in order. Of a message that goes nothing is changed before.
+// Makes the changes, in order. Of messages that go nothing is changed before.
+#[tactic(auto, using(crate::proofs::TakenLemmas::behind_is_all, crate::proofs::TakenLemmas::behind_is_ready))]
 fn apply_in_order(opened: &mut OpenTables, changes: List<Change>, alloc: Global)
     requires { AreReady (held opened.old) (room_of opened.old) changes }
     ensures { held opened.new ≡ after_all (held opened.old) changes }
 {
-    match taken_whole(&changes) {
-        Some(id) => purge(opened, id),
-        None => apply_all(opened, changes, alloc),
-    }
+    let changes = changes.into_vec();
+    let taken = count_taken(&changes);
+    apply_behind(opened, changes, taken, alloc);
 }
 
 /// Makes the changes of a commit, in order, at its moment. It needs no memory.

@@ -1,6 +1,8 @@
 // Messages that are put into queues, and moved between them.
-ghost use Rattle.std.specs.Prelude.{◌≡◌, ◌==◌, ◌^◌, ◌<◌, ◌-◌};
-ghost use Rattle.queue_rows.specs.Rows.{find_message};
+ghost use Rattle.std.specs.Prelude.{◌≡◌, ◌==◌, ◌^◌, ◌<◌, ◌-◌, IsTrue, List};
+ghost use Rattle.std.specs.Str.{bytes_eq};
+ghost use Rattle.queue_rows.specs.Rows.{changed_first, find_message};
+ghost use Rattle.queue_rows.specs.declared.rows.TableRow.{TableRow};
 ghost use Rattle.queue_rows.specs.Tables.{is_grouped, lowered_to, with_message, move_some};
 ghost use Rattle.message_store.specs.Lowered.{with_lowered};
 ghost use Rattle.message_store.specs.Open.{held, room_of};
@@ -13,7 +15,7 @@ use crate::rows::{has_queue, queue_place, table_row};
 use named_list::NamedList;
 use payload_records::Name;
 use place_keys::Place;
-use queue_rows::{MsgRow, QueueRow, SlotRow, TableRow};
+use queue_rows::{MsgRow, QueueRow, SlotRow, TableRow, lane_of};
 use row_tree::Edit;
 
 fn is_grouped(tables: &NamedList<TableRow>, queue: &QueueRow) -> bool
@@ -42,6 +44,24 @@ impl<'a> Edit<QueueRow> for Lower<'a> {
     }
 }
 
+// Whether the queue's lowest lane stays where a message comes at that place, whatever its table.
+fn keeps_lowest(queue: &QueueRow, place: &Place) -> bool
+    ensures { IsTrue result → (tables : List TableRow) → lowered_to tables place.now queue.now ≡ queue.now }
+{
+    queue.lowest <= lane_of(place)
+}
+
+// Whether there is a queue of that name, whose lowest lane stays.
+fn is_low(queues: &NamedList<QueueRow>, name: &Name, place: &Place) -> bool
+    ensures { IsTrue result → (tables : List TableRow)
+        → changed_first (λ q. bytes_eq q.name name.now) (lowered_to tables place.now) queues.now ≡ queues.now }
+{
+    match queues.find(name) {
+        Some(queue) => keeps_lowest(queue, place),
+        None => false,
+    }
+}
+
 fn lower_of(
     tables: &OpenNamed<TableRow>,
     queues: &mut OpenNamed<QueueRow>,
@@ -50,6 +70,9 @@ fn lower_of(
 )
     ensures { queues.new ≡ with_lowered tables.now.items place.now name.now queues.old }
 {
+    if is_low(queues.rows(), name, place) {
+        return;
+    }
     if let Some(at) = queue_place(queues.rows(), name) {
         queues.edit(
             at,
