@@ -1,9 +1,11 @@
 pub mod Cuts
+pub mod Feeds
 pub mod Front
 pub mod Growth
 pub mod Ids
 pub mod Items
 pub mod Limits
 pub mod Lines
+pub mod Plain
 pub mod Steps
 pub mod Tests

@@ -1,7 +1,7 @@
 // What an object is about, and which members it may have.
 ghost use Rattle.std.specs.Prelude.{◌≡◌};
 ghost use Rattle.serde_json.specs.View.{view, members_view};
-ghost use Rattle.script_text.specs.Form.{message_verb_of, queue_verb_of, route_verb_of, admin_verb_of, verb_of, is_key_of_create_table, is_key_of_create_queue, is_key_of_switch, is_key_of_add_subscriber, is_key_of_schedule, is_key_of_route, is_key_of_message, is_key_of_placing, is_key_of_enqueue, is_key_of_choice, is_key_of_taking, is_key_of_dequeue, is_key_of_verb, is_key_of, only_keys, has_form};
+ghost use Rattle.script_text.specs.Form.{message_verb_of, queue_verb_of, route_verb_of, admin_verb_of, verb_of, is_key_of_create_table, is_key_of_create_queue, is_key_of_switch, is_key_of_add_subscriber, is_key_of_schedule, is_key_of_route, is_key_of_message, is_key_of_placing, is_key_of_enqueue, is_key_of_choice, is_key_of_taking, is_key_of_dequeue, is_key_of_verb, is_key_of_plain_dequeue, is_key_of, only_keys, has_form};
 
 use serde_json::{Map, Value};
 
@@ -12,6 +12,10 @@ pub enum Form {
     Declaration,
     /// A line has a session ask a statement.
     Asking(Verb),
+    /// A line has a session enqueue, with none of the members that are mostly left out.
+    PlainEnqueue,
+    /// A line has a session dequeue, with none of the members that are mostly left out.
+    PlainDequeue,
     /// A recipient is listed with its address.
     Recipient,
     /// An agent is listed.
@@ -250,12 +254,20 @@ fn is_key_of_verb(verb: Verb, key: &str) -> bool
     }
 }
 
+fn is_key_of_plain_dequeue(key: &str) -> bool
+    ensures { result ≡ is_key_of_plain_dequeue key.now }
+{
+    key == "s" || key == "do" || key == "queue" || key == "visibility"
+}
+
 fn is_key_of(form: Form, key: &str) -> bool
     ensures { result ≡ is_key_of form key.now }
 {
     match form {
         Form::Declaration => key == "session" || key == "at",
         Form::Asking(verb) => key == "s" || key == "do" || is_key_of_verb(verb, key),
+        Form::PlainEnqueue => key == "payload" || is_key_of_plain_dequeue(key),
+        Form::PlainDequeue => is_key_of_plain_dequeue(key),
         Form::Recipient => key == "name" || key == "address",
         Form::Agent => key == "queue" || key == "consumer",
     }

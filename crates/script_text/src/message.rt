@@ -3,7 +3,9 @@ ghost use Rattle.std.specs.Prelude.{◌≡◌, IfOk, IsErrOf, Some, None, true};
 ghost use Rattle.serde_json.specs.View.{view};
 ghost use Rattle.queue_rows.specs.Within.{is_priority, is_enqueue_within, is_dequeue_within, is_listen_within};
 ghost use Rattle.script_text.specs.Readable.{is_placing_within};
-ghost use Rattle.script_text.specs.Statement.{priority_at, placing_at, enqueue, dequeue, listen};
+ghost use Rattle.script_text.specs.Form.{has_form};
+ghost use Rattle.script_text.specs.declared.form.Form.TheVariants.{PlainEnqueue, PlainDequeue};
+ghost use Rattle.script_text.specs.Statement.{priority_at, placing_at, plain_placing, plain_enqueue, enqueue, plain_dequeue, dequeue, listen};
 
 use crate::fault::LineFault;
 use crate::listed::{agents_at, recipients_at};
@@ -11,7 +13,8 @@ use crate::member::{bool_or, given_at, name_at, name_if_given, priority_in, text
 use crate::parts::{id_if_given, mode_at, navigation_at, payload_at, props_at, visibility_at};
 use crate::times::{seconds_at, span_at, wait_at};
 use aq_base::{CONDITION_LIMIT, CORRELATION_LIMIT};
-use queue_rows::{Dequeue, Enqueue, Listen, MsgId, Visibility};
+use payload_records::List;
+use queue_rows::{Dequeue, Enqueue, Listen, Mode, MsgId, Navigation, Visibility};
 use serde_json::Value;
 use std::alloc::Global;
 
@@ -61,6 +64,49 @@ fn placing_at(value: &Value) -> Result<Placing, LineFault>
         return Err(LineFault::Bad);
     }
     Ok(placing)
+}
+
+#[tactic(auto, unfolding(crate::specs::Statement::plain_placing))]
+fn plain_placing(value: &Value) -> Result<Placing, LineFault>
+    ensures ok { IfOk result (λ placing. plain_placing (view value.now) ≡ Some placing) }
+    ensures within { IfOk result (λ placing. is_placing_within placing ≡ true) }
+    ensures bad { IsErrOf result LineFault.Bad → plain_placing (view value.now) ≡ None }
+{
+    Ok(Placing {
+        visibility: visibility_at(value)?,
+        priority: 1,
+        delay: 0,
+        expiration: None,
+        before: None,
+        top: false,
+    })
+}
+
+/// What is put into a queue by an enqueue of which nothing is said that is mostly left out. Nothing is looked up that is not there.
+#[tactic(auto, unfolding(crate::specs::Statement::plain_enqueue), using(crate::proofs::Plain::enqueue_is_plain))]
+pub fn plain_enqueue(alloc: Global, value: &Value) -> Result<Enqueue, LineFault>
+    requires { has_form PlainEnqueue (view value.now) ≡ true }
+    ensures ok { IfOk result (λ ask. enqueue (view value.now) ≡ Some ask) }
+    ensures within { IfOk result (λ ask. is_enqueue_within ask ≡ true) }
+    ensures bad { IsErrOf result LineFault.Bad → enqueue (view value.now) ≡ None }
+{
+    let placing = plain_placing(value)?;
+    let queue = name_at(alloc, value, "queue")?;
+    let payload = payload_at(alloc, value)?;
+    Ok(Enqueue {
+        queue,
+        payload,
+        visibility: placing.visibility,
+        priority: placing.priority,
+        delay: placing.delay,
+        expiration: placing.expiration,
+        corr: None,
+        recipients: None,
+        exception_queue: None,
+        before: placing.before,
+        top: placing.top,
+        props: List::new(alloc),
+    })
 }
 
 /// What is put into a queue.
@@ -119,6 +165,29 @@ pub fn dequeue(alloc: Global, value: &Value) -> Result<Dequeue, LineFault>
         msgid,
         corr,
         condition,
+    })
+}
+
+/// What is taken from a queue by a dequeue of which nothing is said that is mostly left out. Nothing is looked up that is not there.
+#[tactic(auto, unfolding(crate::specs::Statement::plain_dequeue), using(crate::proofs::Plain::dequeue_is_plain))]
+pub fn plain_dequeue(alloc: Global, value: &Value) -> Result<Dequeue, LineFault>
+    requires { has_form PlainDequeue (view value.now) ≡ true }
+    ensures ok { IfOk result (λ ask. dequeue (view value.now) ≡ Some ask) }
+    ensures within { IfOk result (λ ask. is_dequeue_within ask ≡ true) }
+    ensures bad { IsErrOf result LineFault.Bad → dequeue (view value.now) ≡ None }
+{
+    let visibility = visibility_at(value)?;
+    let queue = name_at(alloc, value, "queue")?;
+    Ok(Dequeue {
+        queue,
+        consumer: None,
+        mode: Mode::Remove,
+        navigation: Navigation::Next,
+        visibility,
+        wait: 0,
+        msgid: None,
+        corr: None,
+        condition: None,
     })
 }
 

@@ -8,15 +8,17 @@ ghost use Rattle.aq_base.specs.declared.limits.TheConstants.{INPUT_LIMIT};
 use crate::fault::{LineFault, ScriptFault};
 use crate::sessions::Sessions;
 use aq_base::INPUT_LIMIT;
+use memchr::{memchr, memchr_iter};
 use payload_records::List;
 use queue_rows::SessionScript;
 use std::alloc::Global;
 
+#[tactic(auto, using(crate::proofs::Feeds::first_is_position))]
 fn line_end(text: &[u8]) -> Option<usize>
     ensures end { result ≡ position is_line_feed text.now }
     ensures within { IfSome result (λ at. at < length text.now) }
 {
-    text.iter().position(|byte| *byte == b'\n')
+    memchr(b'\n', text)
 }
 
 /// The first line of a text, and what stands behind its line feed if it has one.
@@ -52,7 +54,7 @@ fn read_lines(alloc: Global, bytes: &[u8], is_whole: bool) -> Result<Sessions, S
     ensures ok { IfOk result (λ sessions. with_lines 1 [] (lines_in is_whole bytes.now) ≡ Ok sessions) }
     ensures bad { IfErr result (λ fault. IsFaultOf fault (with_lines 1 [] (lines_in is_whole bytes.now))) }
 {
-    let mut sessions = Sessions::new(alloc, count_line_feeds(bytes) as usize + 1);
+    let mut sessions = Sessions::new(alloc, memchr_iter(b'\n', bytes).count() + 1);
     let mut number = 1u64;
     let mut rest = Some(bytes);
     while let Some((line, behind)) = next_line(rest, is_whole) {

@@ -1,11 +1,11 @@
 // The statement that a line asks.
-ghost use Rattle.std.specs.Prelude.{◌≡◌, IfOk, IsErrOf, Some, None, codes, option_and_then, true};
+ghost use Rattle.std.specs.Prelude.{◌≡◌, IfOk, IfSome, IsErrOf, Some, None, codes, option_and_then, true};
 ghost use Rattle.serde_json.specs.View.{view};
 ghost use Rattle.built_statements.specs.Ordered.{is_ordered};
 ghost use Rattle.queue_rows.specs.Within.{is_within};
 ghost use Rattle.script_text.specs.Form.{verb_of};
 ghost use Rattle.script_text.specs.Member.{text_at};
-ghost use Rattle.script_text.specs.Statement.{statement_of, statement};
+ghost use Rattle.script_text.specs.Statement.{statement_of, statement_if, statement};
 
 use crate::fault::LineFault;
 use crate::form::{Form, Verb, has_form, verb_of};
@@ -50,6 +50,25 @@ fn verb_at(value: &Value) -> Option<Verb>
     verb_of(text_at(value, "do")?)
 }
 
+// The statement that a line asks which has none of the members that are mostly left out, as most lines have. Of others nothing is told.
+#[tactic(auto, using(crate::proofs::Plain::enqueue_is_asking, crate::proofs::Plain::dequeue_is_asking), unfolding(queue_rows::specs::Within::is_within))]
+fn plain_statement(alloc: Global, verb: Verb, value: &Value) -> Result<Option<Statement>, LineFault>
+    ensures some { IfOk result (λ plain. IfSome plain (λ s. statement_if (view value.now) verb ≡ Some s)) }
+    ensures within { IfOk result (λ plain. IfSome plain (λ s. is_within s ≡ true)) }
+    ensures ordered { IfOk result (λ plain. IfSome plain (λ s. is_ordered s ≡ true)) }
+    ensures bad { IsErrOf result LineFault.Bad → statement_if (view value.now) verb ≡ None }
+{
+    match verb {
+        Verb::Enqueue if has_form(Form::PlainEnqueue, value) => Ok(Some(Statement::Enqueue(
+            message::plain_enqueue(alloc, value)?,
+        ))),
+        Verb::Dequeue if has_form(Form::PlainDequeue, value) => Ok(Some(Statement::Dequeue(
+            message::plain_dequeue(alloc, value)?,
+        ))),
+        _ => Ok(None),
+    }
+}
+
 /// The statement that a line asks.
 #[tactic(auto, unfolding(crate::specs::Statement::statement))]
 pub fn statement_at(alloc: Global, value: &Value) -> Result<Statement, LineFault>
@@ -61,6 +80,9 @@ pub fn statement_at(alloc: Global, value: &Value) -> Result<Statement, LineFault
     let Some(verb) = verb_at(value) else {
         return Err(LineFault::Bad);
     };
+    if let Some(statement) = plain_statement(alloc, verb, value)? {
+        return Ok(statement);
+    }
     if !has_form(Form::Asking(verb), value) {
         return Err(LineFault::Bad);
     }
