@@ -1,16 +1,17 @@
--- What a line is, by whether it is text.
-use Rattle.std.proofs.Common.{◌≡◌, ℕ, List, Bool, true, false, None, refl}
-use Rattle.std.proofs.lemmas.Str.{IsUtf8-from_is_utf8, is_utf8-from_IsUtf8}
-use Rattle.std.specs.Str.{IsUtf8, is_utf8}
+-- The JSON value of a line, by what is read of its bytes.
+use Rattle.std.proofs.Common.{◌≡◌, ℕ, List, Bool, true, false, cond, Option, Some, None, refl, ◌∙◌}
+use Rattle.std.specs.Str.{is_utf8, IsUtf8}
+use Rattle.std.proofs.lemmas.Str.{is_utf8-from_IsUtf8, IsUtf8-from_is_utf8}
+use Rattle.serde_json.specs.Data.{Data}
 use Rattle.serde_json.specs.Read.{read}
 use Rattle.script_text.specs.Line.{json_of}
 
-pub json_of_text : (line : List ℕ) → IsUtf8 line → json_of line ≡ read line
-json_of_text line text = rw (is_utf8-from_IsUtf8 line text) refl
+pub json_read : (line : List ℕ) (d : Data) → IsUtf8 line → read line ≡ Some d → json_of line ≡ Some d
+json_read line d text is = rw (is_utf8-from_IsUtf8 line text) is
 
-no_json : (line : List ℕ) (b : Bool) → is_utf8 line ≡ b → (IsUtf8 line → ⊥) → json_of line ≡ None
-no_json line true e not_text = absurd (not_text (IsUtf8-from_is_utf8 line e))
-no_json line false e not_text = rw e refl
+no_json : (line : List ℕ) (b : Bool) → is_utf8 line ≡ b → (IsUtf8 line → read line ≡ None) → cond b (read line) None ≡ None
+no_json line true text none = none (IsUtf8-from_is_utf8 line text)
+no_json line false text none = refl
 
-pub json_of_no_text : (line : List ℕ) → (IsUtf8 line → ⊥) → json_of line ≡ None
-json_of_no_text line not_text = no_json line (is_utf8 line) refl not_text
+pub json_unread : (line : List ℕ) → (IsUtf8 line → read line ≡ None) → json_of line ≡ None
+json_unread line none = no_json line (is_utf8 line) refl none

@@ -41,10 +41,7 @@ fn json(alloc: Global, line: &[u8]) -> Result<Value, LineFault>
     ensures ok { IfOk result (λ v. json_of line.now ≡ Some (view v)) }
     ensures bad { IsErrOf result LineFault.Bad → json_of line.now ≡ None }
 {
-    let Ok(text) = str::from_utf8(line) else {
-        return Err(LineFault::Bad);
-    };
-    match Value::from_str(alloc, text) {
+    match Value::from_slice(alloc, line) {
         Ok(value) => Ok(value),
         Err(e) => {
             if e.is_memory() {

@@ -1,10 +1,9 @@
-use Rattle.std.proofs.Common.{◌∙◌}
-use Rattle.script_text.proofs.Lines.{json_of_text, json_of_no_text}
+use Rattle.serde_json.specs.View.{view}
+use Rattle.script_text.proofs.Lines.{json_read, json_unread}
 use Rattle.script_text.proofs.line.json.Goals as goal
 
-pub returns-in_default-clause-bad : goal.returns-in_default-clause-bad
-returns-in_default-clause-bad c = λ _. json_of_no_text c.args.line.now c.in_default.ensures.cases.0
+pub returns-in-Ok-clause-ok : goal.returns-in-Ok-clause-ok
+returns-in-Ok-clause-ok c = json_read c.args.line.now (view c.in-Ok.value) c.in-Ok.ensures.ok.0 c.in-Ok.ensures.ok.1
 
-pub returns-in-Ok-from_str-clause-ok : goal.returns-in-Ok-from_str-clause-ok
-returns-in-Ok-from_str-clause-ok c =
-    json_of_text c.args.line.now c.in-Ok.ensures.cases.1 ∙ rw (← c.in-Ok.ensures.cases.0) c.in-Ok-from_str.ensures.ok
+pub returns-else-is_memory-clause-bad : goal.returns-else-is_memory-clause-bad
+returns-else-is_memory-clause-bad c = λ _. json_unread c.args.line.now (c.in-Err.ensures.err (λ memory. let told = c.is_memory.ensures.1 memory in let not_told = c.if-is_memory.false in absurd cc))
