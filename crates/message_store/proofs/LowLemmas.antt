@@ -1,5 +1,5 @@
 -- A queue whose lowest lane stays.
-use Rattle.std.proofs.Common.{◌≡◌, Bool, true, false, cond, List, [], ◌∷◌, Option, Some, None, refl, ap, ◌∙◌}
+use Rattle.std.proofs.Common.{◌≡◌, Bool, true, false, cond, List, [], ◌∷◌, Some, refl, ap, ◌∙◌}
 use Rattle.std.specs.Prelude.{find}
 use Rattle.queue_rows.specs.Rows.{changed_first}
 use Rattle.row_laws.proofs.Firsts.{changed_first-yes, changed_first-no}
