@@ -1,5 +1,6 @@
 pub mod Counts
 pub mod Joined
 pub mod Objects
+pub mod Pieces
 pub mod Plain
 pub mod Written

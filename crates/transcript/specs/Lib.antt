@@ -1,6 +1,7 @@
 pub mod Dump
 pub mod Line
 pub mod Messages
+pub mod Pieces
 pub mod Print
 pub mod Record
 pub mod Reply

@@ -1,5 +1,5 @@
 -- The lines of a message and of its slots.
-use Rattle.std.specs.Prelude.{ℕ, ℤ, ◌+◌, ◌++◌, ◌&&◌, ◌==◌, List, [], length, codes, decimal, Bool, Option, if◌then◌else◌}
+use Rattle.std.specs.Prelude.{ℕ, ℤ, ◌+◌, ◌++◌, ◌&&◌, ◌==◌, List, [], length, codes, decimal, Bool, if◌then◌else◌}
 use Rattle.std.specs.Fmt.{signed_decimal}
 use Rattle.std.specs.List.{flat_map, join_by, enumerate_from}
 use Rattle.std.specs.Option.{option_map_or}

@@ -77,7 +77,8 @@ fn put_timer(out: &mut String, entry: &Entry) -> Result<(), AllocError>
     put_timer_lines(out, DbId::Away, &entry.away)
 }
 
-fn put_entry(
+/// What an entry prints, where these calls are told.
+pub fn put_entry(
     out: &mut String,
     history: &History,
     told: &ToldCalls,

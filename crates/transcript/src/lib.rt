@@ -12,6 +12,8 @@ mod rows;
 mod text;
 mod told;
 mod word;
+mod writing;
 
 pub use dump::print_tables;
 pub use history::print;
+pub use writing::{PrintFault, print_to};
