@@ -96,13 +96,11 @@ WritesFront taken old new text = (n : ℕ) × (n ≤ length text) × Appends (ta
 abbrev pub Tells : {S : Type 0} → (S → Option (List ℕ)) → (S → ℕ) → S → S → List ℕ → Type 0
 Tells taken faults old new text = Appends (taken old) (taken new) text ⊎ (WritesFront taken old new text × Rose (faults old) (faults new))
 
--- What the status of a call says of a text that it was to write. Some first bytes were written: at 0 all, and at 4 none, for want of memory.
--- At 7 the sink failed.
+-- What the status of a call says of a text that it was to write. Some first bytes were written, at 0 all. At 7 the sink failed.
 pub record Writes {S : Type 0} (taken : S → Option (List ℕ)) (faults : S → ℕ) (old new : S) (text : List ℕ) (status : ℕ) : Type 0 where
   pub whole : status ≡ 0 → Appends (taken old) (taken new) text
   pub front : WritesFront taken old new text
   pub fault : status ≡ 7 → Rose (faults old) (faults new)
-  pub nothing : status ≡ 4 → taken new ≡ taken old
 
 -- ---- what holds of a history
 

@@ -24,6 +24,7 @@ fn shown<O: Sink, D: Disk, C: Clock>(
     ensures known { IsRun result.status ⊎ (result.status ≡ 4) }
     ensures writes { Writes O.taken O.faults out.old out.new
         (dump_text world.held.world.home.tables world.held.world.away.tables) result.status }
+    ensures nothing { result.status ≡ 4 → O.taken out.new ≡ O.taken out.old }
     ensures none { ReachesNoRun world.held.home.disk world.held.away.disk clock result }
 {
     let status = show_tables(

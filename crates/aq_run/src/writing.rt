@@ -6,7 +6,7 @@ ghost use Rattle.aq_run.specs.Serve.{bad_line_text, damaged_text, db_name, dump_
 use aq_base::{DbId, Sink, write_all};
 use queue_rows::{History, Tables};
 use std::alloc::{AllocError, Global};
-use transcript::{print, print_tables};
+use transcript::{PrintFault, print_tables, print_to};
 
 /// Writes a text as far as the sink takes it.
 pub fn tell<O: Sink>(out: &mut O, text: &[u8])
@@ -55,20 +55,22 @@ fn write<O: Sink>(out: &mut O, text: &[u8]) -> u8
     ensures known { IsRun result }
     ensures writes { Writes O.taken O.faults out.old out.new text.now result }
 {
-    match write_all(out, text) {
-        Ok(()) => 0,
-        Err(_) => 7,
-    }
+    let Ok(()) = write_all(out, text) else {
+        return 7;
+    };
+    0
 }
 
-/// Prints a history as far as the sink takes it. The answer is the status of a run that came to its end.
+/// Prints a history as far as the sink takes it and memory lasts. The answer is the status of a run that came to
+/// its end.
 pub fn show<O: Sink>(alloc: Global, out: &mut O, history: &History) -> u8
     ensures known { IsRun result ⊎ (result ≡ 4) }
     ensures writes { Writes O.taken O.faults out.old out.new (print history.now) result }
 {
-    match print(alloc, history) {
-        Ok(text) => write(out, &text),
-        Err(AllocError) => 4,
+    match print_to(alloc, out, history) {
+        Ok(()) => 0,
+        Err(PrintFault::Memory) => 4,
+        Err(PrintFault::Sink(_)) => 7,
     }
 }
 
@@ -81,10 +83,11 @@ fn dump_text(alloc: Global, home: &Tables, away: &Tables) -> Result<Vec<u8>, All
     Ok(text)
 }
 
-/// Prints the tables of both databases, as far as the sink takes them.
+/// Prints the tables of both databases, as far as the sink takes them; at 4 nothing of them.
 pub fn show_tables<O: Sink>(alloc: Global, out: &mut O, home: &Tables, away: &Tables) -> u8
     ensures known { IsRun result ⊎ (result ≡ 4) }
     ensures writes { Writes O.taken O.faults out.old out.new (dump_text home.now away.now) result }
+    ensures nothing { result ≡ 4 → O.taken out.new ≡ O.taken out.old }
 {
     match dump_text(alloc, home, away) {
         Ok(text) => write(out, &text),

@@ -44,7 +44,7 @@ quiet s known same (inl four) = same four
 quiet s known same (inr five) = never s known (inl five)
 
 pub returns-in-Ok-clause-nothing : goal.returns-in-Ok-clause-nothing
-returns-in-Ok-clause-nothing g c = quiet c.shown.result.status c.shown.ensures.known c.shown.ensures.writes.nothing
+returns-in-Ok-clause-nothing g c = quiet c.shown.result.status c.shown.ensures.known c.shown.ensures.nothing
 
 pub returns-in-Ok-clause-call : goal.returns-in-Ok-clause-call
 returns-in-Ok-clause-call g c =
