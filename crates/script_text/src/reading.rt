@@ -5,6 +5,7 @@ ghost use Rattle.script_text.specs.Script.{IsFaultOf};
 ghost use Rattle.script_text.specs.Readable.{AreReadable};
 ghost use Rattle.aq_base.specs.declared.limits.TheConstants.{INPUT_LIMIT};
 
+use crate::earlier::EarlierLines;
 use crate::fault::{LineFault, ScriptFault};
 use crate::sessions::Sessions;
 use aq_base::INPUT_LIMIT;
@@ -55,10 +56,11 @@ fn read_lines(alloc: Global, bytes: &[u8], is_whole: bool) -> Result<Sessions, S
     ensures bad { IfErr result (λ fault. IsFaultOf fault (with_lines 1 [] (lines_in is_whole bytes.now))) }
 {
     let mut sessions = Sessions::new(alloc, memchr_iter(b'\n', bytes).count() + 1);
+    let mut earlier = EarlierLines::new(alloc);
     let mut number = 1u64;
     let mut rest = Some(bytes);
     while let Some((line, behind)) = next_line(rest, is_whole) {
-        match sessions.add_line(alloc, line) {
+        match sessions.add_line(alloc, &mut earlier, line) {
             Ok(()) => {}
             Err(LineFault::Bad) => return Err(ScriptFault::Bad { line: number }),
             Err(LineFault::Memory) => return Err(ScriptFault::Memory),

@@ -6,8 +6,9 @@ ghost use Rattle.queue_rows.specs.Within.{is_session_name, statement_count};
 ghost use Rattle.script_text.specs.Readable.{IsReadable, IsReadableLine, AreReadable};
 ghost use Rattle.script_text.specs.Script.{number_of, with_session, with_statement, with_statement_at, with_statement_of, with_line, with_bytes};
 
+use crate::earlier::EarlierLines;
 use crate::fault::LineFault;
-use crate::line::{Line, read_line};
+use crate::line::Line;
 use aq_base::{DbId, SESSION_LIMIT, STATEMENT_LIMIT};
 use indexmap::IndexSet;
 use payload_records::{Copied, List, Name};
@@ -190,12 +191,17 @@ impl Sessions {
         }
     }
 
-    /// Takes one more line in, which is given without its line feed.
-    pub fn add_line(&mut self, alloc: Global, line: &[u8]) -> Result<(), LineFault>
+    /// Takes one more line in, which is given without its line feed, beside lines that were read before.
+    pub fn add_line(
+        &mut self,
+        alloc: Global,
+        earlier: &mut EarlierLines,
+        line: &[u8],
+    ) -> Result<(), LineFault>
         ensures ok { OnOk result (with_bytes self.old line.now ≡ Some self.new) }
         ensures bad { IsErrOf result LineFault.Bad → with_bytes self.old line.now ≡ None }
     {
-        let line = read_line(alloc, line)?;
+        let line = earlier.read(alloc, line)?;
         self.add(line)
     }
 
