@@ -17,7 +17,7 @@ use Rattle.run_fates.specs.DurableRun.{SerialIsDurable}
 use Rattle.run_spellings.specs.SpellableRun.{HasSpellableRows, have_text_rules}
 use Rattle.run_spellings.specs.SpellingLaws.{LegalCommitsSpell, SoundIsSpellable}
 use Rattle.run_state.specs.Entries.{BeginsAs}
-use Rattle.commit_log.specs.Logged.{AreLoggable}
+use Rattle.durable_state.specs.Logged.{AreLoggable}
 use Rattle.durable_state.specs.Going.{Goes}
 use Rattle.durable_state.specs.Held.{Held, HasFailed}
 use Rattle.durable_state.specs.Survival.{Survives}

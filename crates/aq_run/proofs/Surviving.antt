@@ -13,7 +13,7 @@ use Rattle.history_fates.specs.Durability.{made, durable}
 use Rattle.redo_journal.specs.Journaled.{Journaled}
 use Rattle.redo_journal.specs.Runs.{IsDiskSettled}
 use Rattle.redo_records.specs.Recovered.{recovered}
-use Rattle.commit_log.specs.Logged.{AreLoggable}
+use Rattle.durable_state.specs.Logged.{AreLoggable}
 use Rattle.crash_laws.specs.Crash.{Run, RecoversFirst, SurvivesCrash}
 use Rattle.run_state.specs.Entries.{BeginsAs}
 use Rattle.durable_state.specs.Held.{Held}

@@ -9,11 +9,10 @@ ghost use Rattle.aq_world.specs.Sound.{IsRunning};
 
 use aq_base::DbId;
 use aq_disk::Disk;
-use commit_log::{CommitLog, LogFault};
-use durable_state::{DurableState, Unmounted};
-use message_store::PreparedStore;
+use durable_state::{CommitLog, DurableState, LogFault, Unmounted};
 use payload_records::List;
 use queue_rows::SessionScript;
+use run_state::PreparedStore;
 use std::alloc::Global;
 
 /// Why databases were not mounted.

@@ -11,10 +11,9 @@ use crate::run_logs::RunLogs;
 use aq_disk::Disk;
 use commit_log::CommitLog;
 use crash_laws::opening_survives;
-use message_store::PreparedStore;
 use payload_records::List;
 use queue_rows::{History, SessionScript};
-use run_state::{ReservedList, RunState};
+use run_state::{PreparedStore, ReservedList, RunState};
 use std::alloc::{AllocError, Global};
 use std::marker::Model;
 

@@ -12,3 +12,4 @@ mod steps;
 
 pub use broken::{Broken, Halted};
 pub use durable_state::{DurableState, Finished, Unmounted};
+pub use commit_log::{CommitLog, LogFault};

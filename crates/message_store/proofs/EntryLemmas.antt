@@ -9,8 +9,8 @@ use Rattle.std.proofs.lemmas.List.{append_assoc, append-nil, length-append, leng
 use Rattle.std.proofs.lemmas.Option.{get_or_from_slice_get, none-some, slice_get_past, slice_get_within}
 use Rattle.queue_rows.specs.declared.rows.MsgRow.{MsgRow}
 use Rattle.choice_laws.specs.Entries.{Entry, AreAbove, AreRising, message_at, messages_of}
-use Rattle.ready_slots.specs.Edits.{entry}
-use Rattle.ready_slots.proofs.Inserting.{replaced}
+use Rattle.remote_slots.specs.ReadyEdits.{entry}
+use Rattle.remote_slots.proofs.Inserting.{replaced}
 use Rattle.sort_index.specs.declared.group.Group.{Group}
 use Rattle.message_store.specs.Messages.{ids_of}
 use Rattle.message_store.specs.Stamped.{AreStamps, Rise, entries_of, IfIndexed, Forgets, Notes}

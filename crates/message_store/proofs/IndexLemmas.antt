@@ -6,7 +6,7 @@ use Rattle.std.proofs.lemmas.Bool.{cases_Bool, eqb-false}
 use Rattle.std.proofs.lemmas.List.Elements.{All-cons}
 use Rattle.std.proofs.lemmas.List.Sums.{sum_by-cons}
 use Rattle.due_index.specs.Due.{DueRows}
-use Rattle.ready_slots.proofs.Inserting.{replaced}
+use Rattle.remote_slots.proofs.Inserting.{replaced}
 use Rattle.message_store.specs.DueKept.{Gains, HasRows, IfDue, Loses, keeps_in}
 use Rattle.message_store.specs.declared.due_cache.KeepRow.{KeepRow}
 use Rattle.message_store.proofs.MessageLemmas.{count_of_ids}

@@ -6,7 +6,7 @@ ghost use Rattle.message_store.specs.Stamped.{AreStamps, Forgets, IfReady, Notes
 
 use crate::message_index::MessageIndex;
 use queue_rows::MsgRow;
-use ready_slots::ReadySlots;
+use remote_slots::ReadySlots;
 use row_tree::Tree;
 use std::alloc::Global;
 

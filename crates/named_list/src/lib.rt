@@ -13,3 +13,4 @@ pub use list::NamedList;
 pub use named::{Named, Sought};
 pub use of::Of;
 pub use room::Room;
+pub use row_tree::Tree;

@@ -3,9 +3,8 @@ ghost use Rattle.std.specs.Prelude.{◌≡◌};
 ghost use Rattle.queue_rows.specs.Tables.{empty_tables};
 
 use crate::{MsgRow, QueueRow, ScheduleRow, SeenRow, SubRow, TableRow};
-use named_list::NamedList;
+use named_list::{NamedList, Tree};
 use payload_records::List;
-use row_tree::Tree;
 use std::alloc::Global;
 
 /// What a database holds.

@@ -3,3 +3,4 @@ pub mod Inserting
 pub mod Putting
 pub mod Standing
 pub mod Taking
+pub use Rattle.message_choice.proofs.Walking

@@ -2,3 +2,4 @@ pub mod Edits
 pub mod Putting
 pub mod Shown
 pub mod Taking
+pub use Rattle.message_choice.specs.Indexed

@@ -8,3 +8,4 @@ mod slots;
 pub use laws::{changed_by_both, last_put, nothing_indexed};
 pub use showing::shown;
 pub use slots::ReadySlots;
+pub use message_choice::StampedMessages;

@@ -5,3 +5,4 @@ pub mod Putting
 pub mod Searching
 pub mod Turned
 pub mod Walking
+pub use Rattle.ready_slots.proofs.Inserting

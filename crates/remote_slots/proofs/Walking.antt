@@ -14,8 +14,8 @@ use Rattle.choice_laws.specs.Choosing.{first_passing}
 use Rattle.choice_laws.specs.Entries.{Entry, Row, AreRising, message_at, messages_of, row_cmp}
 use Rattle.choice_laws.specs.GoingLaws.{from_row, rows_behind}
 use Rattle.choice_laws.proofs.Going.{rows_go_on}
-use Rattle.message_choice.specs.Indexed.{stamped}
-use Rattle.message_choice.proofs.Walking.{hit_first, missed_first}
+use Rattle.ready_slots.specs.Indexed.{stamped}
+use Rattle.ready_slots.proofs.Walking.{hit_first, missed_first}
 use Rattle.remote_slots.specs.Remote.{IndexesRemote, rows_to}
 use Rattle.remote_slots.specs.Searched.{first_from, rows_from, sent_first}
 use Rattle.remote_slots.proofs.Searching.{first_is_sent}

@@ -3,3 +3,4 @@ pub mod Few
 pub mod Putting
 pub mod Remote
 pub mod Searched
+pub use Rattle.ready_slots.specs.Edits as ReadyEdits

@@ -9,7 +9,7 @@ use Rattle.queue_rows.specs.declared.rows.SlotRow.{SlotRow}
 use Rattle.sort_index.specs.Ready.{rows_of}
 use Rattle.sort_index.specs.declared.group.Group.{Group}
 use Rattle.choice_laws.specs.Entries.{Entry, Row, row_of, with_row}
-use Rattle.message_choice.specs.Indexed.{stamped}
+use Rattle.ready_slots.specs.Indexed.{stamped}
 
 -- it goes there, and is ready
 abbrev pub is_ready_to : List ℕ → SlotRow → Bool

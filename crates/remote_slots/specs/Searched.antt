@@ -8,7 +8,7 @@ use Rattle.sort_index.specs.declared.group.Ready.{Ready}
 use Rattle.choice_laws.specs.Choosing.{first_passing}
 use Rattle.choice_laws.specs.Entries.{Entry, Row}
 use Rattle.choice_laws.specs.GoingLaws.{from_row}
-use Rattle.message_choice.specs.Indexed.{stamped}
+use Rattle.ready_slots.specs.Indexed.{stamped}
 use Rattle.remote_slots.specs.Remote.{rows_to}
 
 -- of the messages of which the schedule can send a slot at that moment, the one with the least place

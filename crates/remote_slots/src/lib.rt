@@ -14,3 +14,4 @@ pub use sending::{first_to_send, goes_to};
 pub use slots::RemoteSlots;
 pub use tables::SendsMessages;
 pub use walk::least_by_walk;
+pub use ready_slots::ReadySlots;

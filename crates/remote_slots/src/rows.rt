@@ -8,8 +8,8 @@ ghost use Rattle.remote_slots.specs.Remote.{IndexesRemote};
 ghost use Rattle.remote_slots.specs.Searched.{first_from, sent_first};
 
 use crate::sending::can_send_of;
-use message_choice::StampedMessages;
 use queue_rows::{MsgRow, ScheduleRow};
+use ready_slots::StampedMessages;
 use sort_index::{Ready, ReadyIndex, Steps};
 use std::marker::Brand;
 use std::sync::ledger::{Blank, Ledger};

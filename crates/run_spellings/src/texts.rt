@@ -5,7 +5,7 @@ ghost use Rattle.std.specs.Str.{is_utf8};
 ghost use Rattle.queue_rows.specs.Within.{if_some};
 ghost use Rattle.run_spellings.specs.SpellableRun.{asks_text_rule, has_text_rule, have_text_rules};
 
-use payload_records::{List, Text};
+use payload_records::{List, Shared, Text};
 use queue_rows::{Admin, SessionScript, Statement};
 
 fn is_text(rule: &Option<Text>)
@@ -33,7 +33,7 @@ fn has_text_rule(statement: &Statement)
 }
 
 #[tactic(auto, using(crate::proofs::Walking::all_goes_on))]
-fn have_text_rules(statements: &List<Statement>)
+fn have_text_rules(statements: &List<Shared<Statement>>)
     ensures { list_all has_text_rule statements.now ≡ true }
 {
     for statement in statements {

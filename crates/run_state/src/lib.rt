@@ -17,3 +17,4 @@ pub use reserved_list::ReservedList;
 pub use run_database::RunDatabase;
 pub use state::RunState;
 pub use transit::{Stage, Transit};
+pub use message_store::PreparedStore;

@@ -161,7 +161,7 @@ impl RunState {
         ensures { option_copied result ≡ statement_of (slice_get self.now.scripts at) number }
     {
         match self.scripts.get(at as usize) {
-            Some(script) => script.statements.get(number as usize),
+            Some(script) => script.statement(number as usize),
             None => None,
         }
     }

@@ -6,48 +6,24 @@ ghost use Rattle.script_text.specs.declared.line.Line.TheVariants.{Asked};
 
 use crate::fault::LineFault;
 use crate::line::{Line, read_line};
-use payload_records::{Copied, Name};
-use queue_rows::{Dequeue, Statement};
+use payload_records::{Copied, Name, Shared};
+use queue_rows::Statement;
 use std::alloc::{AllocError, Global};
 use std::marker::Model;
 
-fn copy_of_dequeue(ask: &Dequeue) -> Result<Dequeue, AllocError>
-    ensures { IfOk result (λ copy. copy ≡ ask.now) }
-{
-    let queue = ask.queue.copied()?;
-    let consumer = Copied::copied(&ask.consumer)?;
-    let corr = Copied::copied(&ask.corr)?;
-    let condition = Copied::copied(&ask.condition)?;
-    Ok(Dequeue {
-        queue,
-        consumer,
-        mode: ask.mode,
-        navigation: ask.navigation,
-        visibility: ask.visibility,
-        wait: ask.wait,
-        msgid: ask.msgid,
-        corr,
-        condition,
-    })
-}
-
-// A copy of a statement that scripts mostly ask again and again. Others differ from line to line: there is none of them.
-fn copy_of(statement: &Statement) -> Result<Option<Statement>, AllocError>
-    ensures { IfOk result (λ found. IfSome found (λ copy. copy ≡ statement.now)) }
-{
-    match statement {
-        Statement::Dequeue(ask) => Ok(Some(Statement::Dequeue(copy_of_dequeue(ask)?))),
-        Statement::Commit => Ok(Some(Statement::Commit)),
-        Statement::Rollback => Ok(Some(Statement::Rollback)),
-        _ => Ok(None),
-    }
+// Whether it is a statement that scripts mostly ask again and again. Others differ from line to line.
+fn is_repeated(statement: &Statement) -> bool {
+    matches!(
+        statement,
+        Statement::Dequeue(_) | Statement::Commit | Statement::Rollback
+    )
 }
 
 // A line, and what it asks.
 struct Earlier {
     line: Vec<u8>,
     session: Name,
-    statement: Statement,
+    statement: Shared<Statement>,
 }
 
 impl Drop for Earlier {
@@ -70,15 +46,13 @@ impl Earlier {
         line
     }
 
-    // What it asks, once more.
-    fn again(&self) -> Result<Option<Line>, AllocError>
-        ensures { IfOk result (λ found. IfSome found (λ said. said ≡ Asked self.now.session self.now.statement)) }
+    // What it asks, once more: one more owner of the statement.
+    fn again(&self) -> Result<Line, AllocError>
+        ensures { IfOk result (λ said. said ≡ Asked self.now.session self.now.statement) }
     {
-        let Some(statement) = copy_of(&self.statement)? else {
-            return Ok(None);
-        };
         let session = self.session.copied()?;
-        Ok(Some(Line::Asked { session, statement }))
+        let statement = self.statement.copied()?;
+        Ok(Line::Asked { session, statement })
     }
 }
 
@@ -115,7 +89,7 @@ impl EarlierLine {
         if earlier.line.as_slice() != line {
             return Ok(None);
         }
-        earlier.again()
+        Ok(Some(earlier.again()?))
     }
 
     // Keeps the line in place of the one that was kept. At want of memory none is kept.
@@ -124,7 +98,7 @@ impl EarlierLine {
         alloc: Global,
         line: &[u8],
         session: Name,
-        statement: Statement,
+        statement: Shared<Statement>,
     ) -> Result<(), AllocError>
         requires said { line_of line.now ≡ Some (Asked session statement) }
         requires readable { IsReadableLine (Asked session statement) }
@@ -192,12 +166,13 @@ impl EarlierLines {
         let Line::Asked { session, statement } = said else {
             return Ok(());
         };
-        let Some(copy) = copy_of(statement)? else {
+        if !is_repeated(statement) {
             return Ok(());
-        };
+        }
         let session = session.copied()?;
+        let statement = statement.copied()?;
         match self.places.get_mut(place_of(line)) {
-            Some(place) => place.keep(alloc, line, session, copy),
+            Some(place) => place.keep(alloc, line, session, statement),
             None => Ok(()),
         }
     }

@@ -11,7 +11,7 @@ use crate::member::name_at;
 use crate::parts::{place_at, session_at};
 use crate::statement::statement_at;
 use aq_base::{DbId, LINE_LIMIT};
-use payload_records::Name;
+use payload_records::{Name, Shared};
 use queue_rows::Statement;
 use serde_json::Value;
 use std::alloc::Global;
@@ -33,7 +33,7 @@ pub enum Line {
         /// The session's name.
         session: Name,
         /// The statement.
-        statement: Statement,
+        statement: Shared<Statement>,
     },
 }
 
@@ -73,7 +73,7 @@ fn asking(alloc: Global, value: &Value) -> Result<Line, LineFault>
     ensures bad { IsErrOf result LineFault.Bad → asking (view value.now) ≡ None }
 {
     let session = name_at(alloc, value, "s")?;
-    let statement = statement_at(alloc, value)?;
+    let statement = Shared::new(alloc, statement_at(alloc, value)?)?;
     Ok(Line::Asked { session, statement })
 }
 

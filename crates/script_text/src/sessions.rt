@@ -11,7 +11,7 @@ use crate::fault::LineFault;
 use crate::line::Line;
 use aq_base::{DbId, SESSION_LIMIT, STATEMENT_LIMIT};
 use indexmap::IndexSet;
-use payload_records::{Copied, List, Name};
+use payload_records::{Copied, List, Name, Shared};
 use queue_rows::{SessionScript, Statement};
 use std::alloc::{AllocError, Global};
 use std::marker::Model;
@@ -50,7 +50,10 @@ impl Model for Sessions {
         × (s.asked ≡ statement_count s.list.items) × AreReadable s.list.items };
 }
 
-fn push_statement(session: &mut SessionScript, statement: Statement) -> Result<(), AllocError>
+fn push_statement(
+    session: &mut SessionScript,
+    statement: Shared<Statement>,
+) -> Result<(), AllocError>
     ensures ok { OnOk result (session.new ≡ with_statement statement session.old) }
     ensures err { OnErr result (session.new ≡ session.old) }
 {
@@ -61,7 +64,7 @@ fn push_statement(session: &mut SessionScript, statement: Statement) -> Result<(
 fn push_statement_at(
     sessions: &mut [SessionScript],
     at: usize,
-    statement: Statement,
+    statement: Shared<Statement>,
 ) -> Result<(), AllocError>
     requires { at < length sessions.old }
     ensures ok { OnOk result (sessions.new ≡ with_statement_at statement sessions.old at) }
@@ -152,7 +155,7 @@ impl Sessions {
         self.number_of(name)
     }
 
-    fn put(&mut self, at: usize, statement: Statement) -> Result<(), AllocError>
+    fn put(&mut self, at: usize, statement: Shared<Statement>) -> Result<(), AllocError>
         requires within { at < length self.old }
         requires room { statement_count self.old < 1000000 }
         requires readable { IsReadable statement }
@@ -164,7 +167,7 @@ impl Sessions {
     }
 
     // It lets the statement go at one exit alone: at each, all that a statement may hold is followed anew.
-    fn ask(&mut self, name: &Name, statement: Statement) -> Result<(), LineFault>
+    fn ask(&mut self, name: &Name, statement: Shared<Statement>) -> Result<(), LineFault>
         requires { IsReadable statement }
         ensures ok { OnOk result (with_statement_of name.now statement self.old ≡ Some self.new) }
         ensures bad { IsErrOf result LineFault.Bad

@@ -11,3 +11,4 @@ mod state;
 pub use commit::{changes_alone, changes_of, commit_changes};
 pub use rollback::rollback_changes;
 pub use state::{Effect, PositionMove, SessionState, Untold, Verdict};
+pub use exception_queues::MessageTables;

@@ -1,6 +1,6 @@
 // What is printed of replies and steps that no script brings about, or none that is short. The transcripts show the rest.
 use aq_base::DbId;
-use payload_records::{Boxed, List, Name};
+use payload_records::{Boxed, List, Name, Shared};
 use queue_rows::{
     Arrival, Cause, Entry, History, LimitName, Reply, SessionScript, SlotRef, Statement, Step,
     Tables,
@@ -43,14 +43,14 @@ fn add_session(scripts: &mut List<SessionScript>, alloc: Global) -> Result<(), F
     let name = Name::read(alloc, "s1")?;
     scripts.push(session(alloc, name))?;
     match scripts.get_mut(0) {
-        Some(script) => add_statements(&mut script.statements),
+        Some(script) => add_statements(alloc, &mut script.statements),
         None => Ok(()),
     }
 }
 
-fn add_statements(statements: &mut List<Statement>) -> Result<(), Fail> {
-    statements.push(Statement::Commit)?;
-    statements.push(Statement::Rollback)?;
+fn add_statements(alloc: Global, statements: &mut List<Shared<Statement>>) -> Result<(), Fail> {
+    statements.push(Shared::new(alloc, Statement::Commit)?)?;
+    statements.push(Shared::new(alloc, Statement::Rollback)?)?;
     Ok(())
 }
 

@@ -19,7 +19,7 @@ fn statement_of(session: &SessionScript, number: u32) -> Option<&Statement>
     if number == 0 {
         return None;
     }
-    session.statements.get(number as usize - 1)
+    session.statement(number as usize - 1)
 }
 
 fn put_told(

@@ -1,5 +1,5 @@
 use Rattle.std.proofs.Common.{subst}
-use Rattle.commit_log.specs.Mounting.{disk_in}
+use Rattle.durable_state.specs.LogMounting.{disk_in}
 use Rattle.aq_world.specs.Mounting.{KeepsRecovered}
 use Rattle.aq_world.proofs.Mounting.{opened_by}
 use Rattle.aq_world.proofs.mount.mount_log.Goals as goal
