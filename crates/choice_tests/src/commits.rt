@@ -1,7 +1,7 @@
 // Commits at random.
 use crate::rows::{any_message, any_queue, below, queue};
 use message_store::PreparedStore;
-use payload_records::List;
+use payload_records::{Boxed, List};
 use queue_rows::{Change, Commit, QueueKind};
 use std::alloc::{AllocError, Global};
 use std::test::Fail;
@@ -46,7 +46,7 @@ fn queue_change(seed: &mut u32, alloc: Global) -> Result<Change, Fail> {
     } else {
         let mut row = queue(alloc, "q", QueueKind::Normal)?;
         row.retention = u64::from(below(seed, 2)) * 30;
-        Ok(Change::PutQueue(row))
+        Ok(Change::PutQueue(Boxed::new(alloc, row)?))
     }
 }
 
@@ -63,7 +63,8 @@ fn any_change(seed: &mut u32, next: &mut u32, alloc: Global) -> Result<Change, F
         _ => {
             let id = *next;
             *next = id.wrapping_add(1);
-            Ok(Change::Enqueued(any_message(seed, alloc, id)?))
+            let message = any_message(seed, alloc, id)?;
+            Ok(Change::Enqueued(Boxed::new(alloc, message)?))
         }
     }
 }

@@ -120,9 +120,9 @@ pub fn is_local(tables: &Tables, change: &Change) -> Result<bool, AllocError>
     ensures { IfOk result (λ local. local ≡ is_local tables.now change.now) }
 {
     match change {
-        Change::PutTable(row) => Ok(find_table(tables, &row.name).is_none()),
+        Change::PutTable(row) => Ok(find_table(tables, &row.get().name).is_none()),
         Change::DropTable(name) => goes_alone(tables, name),
-        Change::PutQueue(row) => Ok(may_be_put(tables, row)),
+        Change::PutQueue(row) => Ok(may_be_put(tables, row.get())),
         Change::DropQueue(name) => may_go(tables, name),
         Change::Counters { .. } => Ok(false),
         _ => Ok(true),

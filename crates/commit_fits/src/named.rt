@@ -72,7 +72,8 @@ fn leaves_right<T: MessageTables>(tables: &T, change: &Change) -> Result<bool, A
 {
     match change {
         Change::Enqueued(row) => Ok(
-            holds_right_message(tables, row.id) && holds_right_queue(tables.tables(), &row.queue),
+            holds_right_message(tables, row.get().id)
+                && holds_right_queue(tables.tables(), &row.get().queue),
         ),
         Change::Retried { id, .. }
         | Change::Ready { id, .. }
@@ -83,11 +84,11 @@ fn leaves_right<T: MessageTables>(tables: &T, change: &Change) -> Result<bool, A
             Ok(holds_right_message(tables, *id) && holds_right_queue(tables.tables(), queue))
         }
         Change::Seen(row) => Ok(row.copy < tables.tables().next),
-        Change::PutTable(row) => holds_right_table(tables.tables(), &row.name),
-        Change::PutQueue(row) => Ok(holds_right_queue(tables.tables(), &row.name)),
-        Change::PutSub(row) => holds_right_sub(tables.tables(), &row.queue, &row.name),
+        Change::PutTable(row) => holds_right_table(tables.tables(), &row.get().name),
+        Change::PutQueue(row) => Ok(holds_right_queue(tables.tables(), &row.get().name)),
+        Change::PutSub(row) => holds_right_sub(tables.tables(), &row.get().queue, &row.get().name),
         Change::PutSchedule(row) => {
-            Ok(holds_right_schedule(tables.tables(), &row.queue, &row.to))
+            Ok(holds_right_schedule(tables.tables(), &row.get().queue, &row.get().to))
         }
         Change::DropTable(_)
         | Change::DropQueue(_)

@@ -1,6 +1,6 @@
 // Changes, as the cases name them.
 use crate::rows;
-use payload_records::{List, Name};
+use payload_records::{Boxed, List, Name};
 use queue_rows::{Change, QueueKind};
 use std::alloc::Global;
 use std::test::Fail;
@@ -48,7 +48,8 @@ fn put_queue(alloc: Global, table: &str, name: &str, is_exception: bool) -> Resu
     } else {
         QueueKind::Normal
     };
-    Ok(Change::PutQueue(rows::queue(alloc, table, name, kind)?))
+    let row = rows::queue(alloc, table, name, kind)?;
+    Ok(Change::PutQueue(Boxed::new(alloc, row)?))
 }
 
 fn no_table(alloc: Global, name: &str) -> Result<Change, Fail> {
@@ -94,13 +95,23 @@ fn plain(asked: Asked) -> Option<Change> {
     }
 }
 
+fn put_table(alloc: Global, name: &str) -> Result<Change, Fail> {
+    let row = rows::table(alloc, name)?;
+    Ok(Change::PutTable(Boxed::new(alloc, row)?))
+}
+
+fn put_retrying(alloc: Global, retries: u64) -> Result<Change, Fail> {
+    let row = rows::retrying(alloc, retries)?;
+    Ok(Change::PutQueue(Boxed::new(alloc, row)?))
+}
+
 fn of_queues(alloc: Global, asked: Asked) -> Result<Option<Change>, Fail> {
     match asked {
-        Asked::Table(name) => Ok(Some(Change::PutTable(rows::table(alloc, name)?))),
+        Asked::Table(name) => Ok(Some(put_table(alloc, name)?)),
         Asked::NoTable(name) => Ok(Some(no_table(alloc, name)?)),
         Asked::Queue(name, is_exception) => Ok(Some(put_queue(alloc, "t", name, is_exception)?)),
         Asked::Other(name, is_exception) => Ok(Some(put_queue(alloc, "u", name, is_exception)?)),
-        Asked::Allows(retries) => Ok(Some(Change::PutQueue(rows::retrying(alloc, retries)?))),
+        Asked::Allows(retries) => Ok(Some(put_retrying(alloc, retries)?)),
         Asked::NoQueue(name) => Ok(Some(no_queue(alloc, name)?)),
         _ => Ok(None),
     }
@@ -108,12 +119,17 @@ fn of_queues(alloc: Global, asked: Asked) -> Result<Option<Change>, Fail> {
 
 fn put(alloc: Global, asked: Asked) -> Result<Change, Fail> {
     match asked {
-        Asked::Sub(queue) => Ok(Change::PutSub(rows::sub(alloc, queue)?)),
+        Asked::Sub(queue) => {
+            let row = rows::sub(alloc, queue)?;
+            Ok(Change::PutSub(Boxed::new(alloc, row)?))
+        }
         Asked::Schedule(queue, failures) => {
-            Ok(Change::PutSchedule(rows::schedule(alloc, queue, failures)?))
+            let row = rows::schedule(alloc, queue, failures)?;
+            Ok(Change::PutSchedule(Boxed::new(alloc, row)?))
         }
         Asked::Message(id, queue, lane) => {
-            Ok(Change::Enqueued(rows::message(alloc, id, queue, lane)?))
+            let row = rows::message(alloc, id, queue, lane)?;
+            Ok(Change::Enqueued(Boxed::new(alloc, row)?))
         }
         Asked::Moved(id, queue) => moved(alloc, id, queue),
         _ => Err("no row")?,

@@ -18,7 +18,7 @@ fn has_numbers(change: &Change) -> bool
     ensures { IsTrue result → HasNumbers change.now }
 {
     match change {
-        Change::Enqueued(row) => row.id < 1000 && row.group < 1000,
+        Change::Enqueued(row) => row.get().id < 1000 && row.get().group < 1000,
         _ => true,
     }
 }

@@ -34,7 +34,7 @@ fn add_of(added: &mut AddedSlots, change: &Change) -> Result<(), AllocError>
         (TellsMore (λ q. slots_added q change.now) (get nat_eq added.old) (get nat_eq added.new)) }
 {
     match change {
-        Change::Enqueued(row) => add(added, row.id, row.slots.len()),
+        Change::Enqueued(row) => add(added, row.get().id, row.get().slots.len()),
         Change::Moved { id, .. } => add(added, *id, 1),
         _ => Ok(()),
     }

@@ -81,15 +81,15 @@ fn apply_change(opened: &mut OpenTables, change: Change, alloc: Global)
     ensures room { room_of opened.new ≡ room_after (room_of opened.old) change }
 {
     match change {
-        Change::PutTable(row) => put(&mut opened.tables, row),
+        Change::PutTable(row) => put(&mut opened.tables, row.into_inner()),
         Change::DropTable(name) => drop_table(opened, &name),
-        Change::PutQueue(row) => put(&mut opened.queues, row),
+        Change::PutQueue(row) => put(&mut opened.queues, row.into_inner()),
         Change::DropQueue(name) => drop_queue(opened, &name),
-        Change::PutSub(row) => put(&mut opened.subs, row),
+        Change::PutSub(row) => put(&mut opened.subs, row.into_inner()),
         Change::DropSub { queue, name } => remove_sub(&mut opened.subs, &queue, &name),
-        Change::PutSchedule(row) => put_schedule(&mut opened.schedules, row),
+        Change::PutSchedule(row) => put_schedule(&mut opened.schedules, row.into_inner()),
         Change::DropSchedule { queue, to } => remove_schedule(&mut opened.schedules, &queue, &to),
-        Change::Enqueued(row) => enqueue(opened, row),
+        Change::Enqueued(row) => enqueue(opened, row.into_inner()),
         Change::Retried {
             id,
             slot,

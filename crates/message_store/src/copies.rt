@@ -77,7 +77,7 @@ fn copy_of(change: &Change) -> Result<Change, AllocError>
     }
 }
 
-/// Copies, which are the same changes. A change is large, and mostly few come of a commit: so there is room for them and for no more.
+/// Copies, which are the same changes. Mostly few changes come of a commit: so there is room for them and for no more.
 pub(crate) fn copies_of(changes: &List<Change>) -> Result<List<Change>, AllocError>
     ensures { IfOk result (λ copies. copies ≡ changes.now) }
 {

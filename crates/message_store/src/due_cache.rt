@@ -151,10 +151,14 @@ impl DueCache {
         due
     }
 
+    fn is_kept_otherwise(&self, queue: &QueueRow) -> bool {
+        keeps_in(&self.keeps, &queue.name) != queue.retention
+    }
+
     /// Whether the change may be one of how long a queue keeps messages. No clause is needed, as for the list.
     pub(crate) fn is_changed_by(&self, change: &Change) -> bool {
         match change {
-            Change::PutQueue(row) => keeps_in(&self.keeps, &row.name) != row.retention,
+            Change::PutQueue(row) => self.is_kept_otherwise(row.get()),
             Change::DropQueue(name) => keeps_in(&self.keeps, name) > 0,
             Change::DropTable(_) => !self.keeps.is_empty(),
             _ => false,

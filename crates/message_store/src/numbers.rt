@@ -12,7 +12,9 @@ fn check_number(change: &Change) -> Result<(), AllocError>
     ensures { OnOk result (HasNumbers change.now) }
 {
     match change {
-        Change::Enqueued(row) if row.id >= LIMIT || row.group >= LIMIT => Err(AllocError),
+        Change::Enqueued(row) if row.get().id >= LIMIT || row.get().group >= LIMIT => {
+            Err(AllocError)
+        }
         _ => Ok(()),
     }
 }

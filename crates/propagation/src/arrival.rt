@@ -10,7 +10,7 @@ use crate::destination::{destination, has_seen};
 use crate::schedules::{delayed, is_last_failure};
 use crate::sent::{Sent, sent_at};
 use exception_queues::MessageTables;
-use payload_records::List;
+use payload_records::{Boxed, List};
 use queue_rows::{Arrival, Cause, Change, ScheduleRow, SlotRef, TableRow, Tables};
 use std::alloc::{AllocError, Global};
 
@@ -59,7 +59,8 @@ fn failed(
     ensures { IfOk result (IsFailure schedule.now cause moment) }
 {
     let mut origin = Vec::with_capacity(alloc, 1)?;
-    origin.push(Change::PutSchedule(delayed(schedule, moment)?))?;
+    let row = Boxed::new(alloc, delayed(schedule, moment)?)?;
+    origin.push(Change::PutSchedule(row))?;
     Ok(Arriving {
         outcome: Arrival::Failed {
             cause,

@@ -6,7 +6,7 @@ ghost use Rattle.propagation.specs.Outcomes.{confirmation_of};
 
 use crate::sent::sent_at;
 use exception_queues::{MessageTables, settle};
-use payload_records::{Copied, List};
+use payload_records::{Boxed, Copied, List};
 use queue_rows::{Change, ScheduleRow, SlotRef};
 use std::alloc::{AllocError, Global};
 
@@ -19,6 +19,7 @@ fn recover(changes: &mut List<Change>, schedule: &ScheduleRow) -> Result<(), All
     }
     let mut row = schedule.copied()?;
     row.failures = 0;
+    let row = Boxed::new(changes.allocator(), row)?;
     changes.push(Change::PutSchedule(row))
 }
 

@@ -6,7 +6,7 @@ ghost use Rattle.propagation.specs.Sent.{parcel_of};
 ghost use Rattle.propagation.specs.Copies.{copy_at, taken_in_at};
 
 use crate::sent::Sent;
-use payload_records::{Copied, List};
+use payload_records::{Boxed, Copied, List};
 use place_keys::{Column, Place, SortList};
 use queue_rows::{Change, MsgRow, SeenRow, SlotRef, SlotRow, SlotState, TableRow};
 use smallvec::SmallVec;
@@ -143,7 +143,8 @@ pub(crate) fn taken_in(
     ensures { IfOk result (λ changes. changes ≡ taken_in_at table.now at.now (parcel_of sent.entry) stamp) }
 {
     let mut changes = Vec::with_capacity(alloc, 2)?;
-    changes.push(Change::Enqueued(copy_of(alloc, table, sent, stamp)?))?;
+    let copy = Boxed::new(alloc, copy_of(alloc, table, sent, stamp)?)?;
+    changes.push(Change::Enqueued(copy))?;
     changes.push(Change::Seen(SeenRow {
         id: at.id,
         slot: u64::from(at.slot),

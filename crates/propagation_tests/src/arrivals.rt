@@ -229,7 +229,7 @@ fn put(schedules: &mut List<ScheduleRow>, mut changes: List<Change>) -> Result<b
     match changes.pop() {
         Some(Change::PutSchedule(row)) => {
             schedules.clear();
-            schedules.push(row)?;
+            schedules.push(row.into_inner())?;
             Ok(changes.is_empty())
         }
         _ => Ok(false),

@@ -93,9 +93,9 @@ fn put_moved(out: &mut String, id: u64, queue: &str, at: u64) -> Result<(), Allo
 
 fn put_change(out: &mut String, change: &Change) -> Result<(), AllocError> {
     match change {
-        Change::Enqueued(row) => put_message(out, row),
+        Change::Enqueued(row) => put_message(out, row.get()),
         Change::Seen(row) => put_seen(out, row),
-        Change::PutSchedule(row) => put_schedule(out, row),
+        Change::PutSchedule(row) => put_schedule(out, row.get()),
         Change::Done { id, slot, at } => write!(out, "done {id}.{slot} at {at};"),
         Change::Moved { id, queue, at } => put_moved(out, *id, queue.as_str(), *at),
         Change::Purged { id } => write!(out, "purged {id};"),

@@ -9,7 +9,7 @@ use crate::changes::one;
 use crate::fault::CatalogFault;
 use crate::lookup::exception_name;
 use exception_queues::{find_queue, find_table};
-use payload_records::{Copied, List, Name};
+use payload_records::{Boxed, Copied, List, Name};
 use queue_rows::{Change, QueueKind, QueueRow, Reply, Tables};
 use std::alloc::{AllocError, Global};
 
@@ -60,7 +60,7 @@ pub(crate) fn create_queue(
         retention: settings.retention,
         lowest: 0,
     };
-    Ok(one(alloc, Change::PutQueue(row))?)
+    Ok(one(alloc, Change::PutQueue(Boxed::new(alloc, row)?))?)
 }
 
 fn is_queue_used(queue: &QueueRow) -> Result<bool, AllocError>
@@ -116,7 +116,8 @@ pub(crate) fn start_queue(
     if row.kind.is_exception() && enqueue.unwrap_or(false) {
         return Err(CatalogFault::Refused(Reply::WrongKind));
     }
-    Ok(one(alloc, Change::PutQueue(started(row, enqueue, dequeue)?))?)
+    let new = Boxed::new(alloc, started(row, enqueue, dequeue)?)?;
+    Ok(one(alloc, Change::PutQueue(new))?)
 }
 
 fn stopped(row: &QueueRow, enqueue: bool, dequeue: bool) -> Result<QueueRow, AllocError>
@@ -143,5 +144,6 @@ pub(crate) fn stop_queue(
     let Some(row) = find_queue(tables, queue) else {
         return Err(CatalogFault::Refused(Reply::NoQueue));
     };
-    Ok(one(alloc, Change::PutQueue(stopped(row, enqueue, dequeue)?))?)
+    let new = Boxed::new(alloc, stopped(row, enqueue, dequeue)?)?;
+    Ok(one(alloc, Change::PutQueue(new))?)
 }

@@ -11,7 +11,7 @@ use crate::changes::one;
 use crate::fault::CatalogFault;
 use crate::lookup::{find_schedule, has_subscribers};
 use exception_queues::find_queue;
-use payload_records::{Copied, List, Name};
+use payload_records::{Boxed, Copied, List, Name};
 use queue_rows::{Change, Reply, ScheduleRow, Tables};
 use std::alloc::{AllocError, Global};
 
@@ -64,7 +64,7 @@ pub(crate) fn schedule(
         failures: 0,
         next: 0,
     };
-    Ok(one(alloc, Change::PutSchedule(new))?)
+    Ok(one(alloc, Change::PutSchedule(Boxed::new(alloc, new)?))?)
 }
 
 // The schedule of that queue and destination, or why a change of it is refused.
@@ -119,7 +119,7 @@ pub(crate) fn enable_schedule(
     schedule.enabled = true;
     schedule.failures = 0;
     schedule.next = 0;
-    Ok(one(alloc, Change::PutSchedule(schedule))?)
+    Ok(one(alloc, Change::PutSchedule(Boxed::new(alloc, schedule)?))?)
 }
 
 /// A schedule sends no more, and the rest of it stays.
@@ -137,5 +137,5 @@ pub(crate) fn disable_schedule(
 {
     let mut schedule = schedule_of(tables, queue, to)?.copied()?;
     schedule.enabled = false;
-    Ok(one(alloc, Change::PutSchedule(schedule))?)
+    Ok(one(alloc, Change::PutSchedule(Boxed::new(alloc, schedule)?))?)
 }

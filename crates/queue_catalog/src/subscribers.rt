@@ -52,7 +52,7 @@ fn put_ruled(
                 address,
                 rule,
             };
-            one(alloc, Change::PutSub(row))
+            one(alloc, Change::PutSub(Boxed::new(alloc, row)?))
         }
         Err(AllocError) => {
             drop(rule);

@@ -1,8 +1,9 @@
 // Queue tables: how one is made, and how one is taken away.
-ghost use Rattle.std.specs.Prelude.{◌≡◌, ◌&&◌, ℕ, not, Ok, IfOk, IfErr};
+ghost use Rattle.std.specs.Prelude.{◌≡◌, ◌∷◌, [], ◌&&◌, ℕ, not, Ok, IfOk, IfErr};
 ghost use Rattle.std.specs.List.{list_any};
 ghost use Rattle.std.specs.Str.{bytes_eq};
 ghost use Rattle.queue_rows.specs.Catalog.{judged, exception_row, is_of_table, is_table_used};
+ghost use Rattle.queue_rows.specs.declared.change.Change.TheVariants.{PutQueue, PutTable};
 ghost use Rattle.queue_rows.specs.declared.statement.Admin.TheVariants as asks;
 ghost use Rattle.queue_catalog.specs.Judging.{Refuses};
 
@@ -10,7 +11,7 @@ use crate::changes::{one, two};
 use crate::fault::CatalogFault;
 use crate::lookup::exception_name;
 use exception_queues::{find_queue, find_table};
-use payload_records::{Copied, List, Name, RecordType};
+use payload_records::{Boxed, Copied, List, Name, RecordType};
 use place_keys::SortList;
 use queue_rows::{Change, QueueKind, QueueRow, Reply, TableRow, Tables};
 use std::alloc::{AllocError, Global};
@@ -29,6 +30,14 @@ fn exception_row(table: &Name) -> Result<QueueRow, AllocError>
         retention: 0,
         lowest: 0,
     })
+}
+
+fn puts(alloc: Global, row: TableRow, exception: QueueRow) -> Result<List<Change>, AllocError>
+    ensures { IfOk result (λ changes. changes ≡ PutTable row ∷ PutQueue exception ∷ []) }
+{
+    let row = Boxed::new(alloc, row)?;
+    let exception = Boxed::new(alloc, exception)?;
+    two(alloc, Change::PutTable(row), Change::PutQueue(exception))
 }
 
 /// A queue table comes with its default exception queue, which takes and gives no messages until it is started.
@@ -58,7 +67,7 @@ pub(crate) fn create_table(
         multi,
         grouped,
     };
-    Ok(two(alloc, Change::PutTable(row), Change::PutQueue(exception))?)
+    Ok(puts(alloc, row, exception)?)
 }
 
 fn is_further_queue(table: &Name, exception: &Name, queue: &QueueRow) -> bool

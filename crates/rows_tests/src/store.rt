@@ -5,7 +5,7 @@ ghost use Rattle.message_store.specs.Numbers.{HasNumbers};
 use crate::fixtures;
 use message_store::Store;
 use named_list::NamedList;
-use payload_records::{List, Name};
+use payload_records::{Boxed, List, Name};
 use queue_rows::{Change, MsgRow, QueueKind, QueueRow, Tables};
 use row_tree::Tree;
 use std::alloc::{AllocError, Global};
@@ -28,12 +28,12 @@ enum Asked {
 
 fn put_queue(alloc: Global, name: &str) -> Result<Change, Fail> {
     let queue = fixtures::queue(alloc, name, QueueKind::Normal)?;
-    Ok(Change::PutQueue(queue))
+    Ok(Change::PutQueue(Boxed::new(alloc, queue)?))
 }
 
 fn enqueued(alloc: Global, id: u32, lane: i64) -> Result<Change, Fail> {
     let message = fixtures::message(alloc, id, "q", lane, 1)?;
-    Ok(Change::Enqueued(message))
+    Ok(Change::Enqueued(Boxed::new(alloc, message)?))
 }
 
 fn retried(id: u64) -> Change {
@@ -93,7 +93,7 @@ fn has_numbers(change: &Change) -> bool
     ensures { IsTrue result → HasNumbers change.now }
 {
     match change {
-        Change::Enqueued(row) => row.id < 1000 && row.group < 1000,
+        Change::Enqueued(row) => row.get().id < 1000 && row.get().group < 1000,
         _ => true,
     }
 }
@@ -230,6 +230,7 @@ fn column(store: &Store, id: u64) -> Option<i64> {
 
 fn add_message(store: &mut Store, alloc: Global, id: u32, column: i64) -> Result<(), Fail> {
     let message = fixtures::message(alloc, id, "q", 0, column)?;
+    let message = Boxed::new(alloc, message)?;
     fixtures::commit(store, alloc, Change::Enqueued(message))?;
     Ok(())
 }

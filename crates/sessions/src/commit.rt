@@ -54,7 +54,7 @@ fn queues_for(tables: &Tables, pending: &List<Pending>) -> Result<List<QueueRow>
     }
 }
 
-// A change is large, and mostly few come of a commit: so there is room for them and for what a removal may settle, and for no more.
+// Mostly few changes come of a commit: so there is room for them and for what a removal may settle, and for no more.
 fn room_for(pending: &List<Pending>) -> Result<List<Change>, AllocError>
     ensures { IfOk result (λ changes. changes ≡ []) }
 {

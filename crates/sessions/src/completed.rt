@@ -9,7 +9,7 @@ ghost use Rattle.sessions.specs.Stamped.{completed_in_table, completed_for, comp
 use crate::places::place_at_commit;
 use exception_queues::find_table;
 use named_list::NamedList;
-use payload_records::{Copied, List, Name};
+use payload_records::{Boxed, Copied, List, Name};
 use queue_rows::{Change, MsgRow, Pending, QueueRow, SlotRow, SlotState, TableRow, Tables};
 use std::alloc::{AllocError, Global};
 
@@ -149,9 +149,10 @@ pub fn change_of<Q: Queues>(
     ensures { IfOk result (λ change. change ≡ change_among tables.now (Q.rows queues.now) stamp pending.now) }
 {
     match pending {
-        Pending::Add(message) => Ok(Change::Enqueued(completed(
-            alloc, tables, queues, stamp, message,
-        )?)),
+        Pending::Add(message) => {
+            let row = completed(alloc, tables, queues, stamp, message)?;
+            Ok(Change::Enqueued(Boxed::new(alloc, row)?))
+        }
         Pending::Remove { id, slot } => Ok(Change::Done {
             id: *id,
             slot: u64::from(*slot),

@@ -47,6 +47,6 @@ pub fn lower_by(tables: &Tables, queues: &mut List<QueueRow>, change: &Change)
     ensures { queues.new ≡ queues_after tables.now.tables queues.old change.now }
 {
     if let Change::Enqueued(message) = change {
-        lower_for(tables, queues, message);
+        lower_for(tables, queues, message.get());
     }
 }

@@ -68,7 +68,7 @@ pub fn names_what_is_there<T: MessageTables>(tables: &T, change: &Change) -> boo
         Change::DropQueue(name) => find_queue(tables.tables(), name).is_some(),
         Change::DropSub { queue, name } => find_sub(tables.tables(), queue, name).is_some(),
         Change::DropSchedule { queue, to } => find_schedule(tables.tables(), queue, to).is_some(),
-        Change::Enqueued(row) => tables.message(row.id).is_none(),
+        Change::Enqueued(row) => tables.message(row.get().id).is_none(),
         Change::Retried { id, slot, .. }
         | Change::Ready { id, slot, .. }
         | Change::Done { id, slot, .. }
