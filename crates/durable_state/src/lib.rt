@@ -11,5 +11,5 @@ mod run_logs;
 mod steps;
 
 pub use broken::{Broken, Halted};
-pub use durable_state::{DurableState, Finished, Unmounted};
 pub use commit_log::{CommitLog, LogFault};
+pub use durable_state::{DurableState, Finished, Unmounted};

@@ -54,7 +54,8 @@ fn keeps_lowest(queue: &QueueRow, place: &Place) -> bool
 // Whether there is a queue of that name, whose lowest lane stays.
 fn is_low(queues: &NamedList<QueueRow>, name: &Name, place: &Place) -> bool
     ensures { IsTrue result → (tables : List TableRow)
-        → changed_first (λ q. bytes_eq q.name name.now) (lowered_to tables place.now) queues.now ≡ queues.now }
+        → changed_first (λ q. bytes_eq q.name name.now) (lowered_to tables place.now) queues.now
+        ≡ queues.now }
 {
     match queues.find(name) {
         Some(queue) => keeps_lowest(queue, place),

@@ -6,6 +6,6 @@ mod showing;
 mod slots;
 
 pub use laws::{changed_by_both, last_put, nothing_indexed};
+pub use message_choice::StampedMessages;
 pub use showing::shown;
 pub use slots::ReadySlots;
-pub use message_choice::StampedMessages;

@@ -9,9 +9,9 @@ mod tables;
 mod walk;
 
 pub use laws::{changed_by_both, last_put, nothing_indexed};
+pub use ready_slots::ReadySlots;
 pub use rows::least_by_rows;
 pub use sending::{first_to_send, goes_to};
 pub use slots::RemoteSlots;
 pub use tables::SendsMessages;
 pub use walk::least_by_walk;
-pub use ready_slots::ReadySlots;

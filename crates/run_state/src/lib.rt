@@ -13,8 +13,8 @@ mod steps;
 mod transit;
 
 pub use call_effect::{CallEffect, Holdings};
+pub use message_store::PreparedStore;
 pub use reserved_list::ReservedList;
 pub use run_database::RunDatabase;
 pub use state::RunState;
 pub use transit::{Stage, Transit};
-pub use message_store::PreparedStore;

@@ -74,7 +74,8 @@ impl Model for EarlierLine {
     ghost view = { λ l. l.kept };
 
     ghost invariant = { λ l. IfSome l.kept (λ e.
-        (line_of e.line.items ≡ Some (Asked e.session e.statement)) × IsReadableLine (Asked e.session e.statement)) };
+        (line_of e.line.items ≡ Some (Asked e.session e.statement))
+        × IsReadableLine (Asked e.session e.statement)) };
 }
 
 impl EarlierLine {
