@@ -9,14 +9,14 @@ use Rattle.queue_rows.specs.declared.history.SessionScript.{SessionScript}
 use Rattle.world_laws.specs.WorldLaws.{MayBegin}
 use Rattle.fate_laws.specs.Made.{commits_of, opening_of}
 use Rattle.history_fates.specs.Durability.{made, durable}
-use Rattle.database_recovery.specs.Sound.{IsSound}
+use Rattle.durable_state.specs.Sound.{IsSound}
 use Rattle.queue_rows.specs.Legal.{IsLegalHistory}
 use Rattle.queue_rows.specs.Serial.{AreSerial, IsSerial, IsSerialFront, IsOnTheWay}
 use Rattle.run_turns.specs.Laws.{IsAllDone, SerialCallsAll, SerialFrontIsLegal, SerialIsDone, SerialIsLegal, LegalCallsInOrder}
 use Rattle.run_fates.specs.DurableRun.{SerialIsDurable}
 use Rattle.run_spellings.specs.SpellableRun.{HasSpellableRows, have_text_rules}
 use Rattle.run_spellings.specs.SpellingLaws.{LegalCommitsSpell, SoundIsSpellable}
-use Rattle.run_state.specs.Entries.{BeginsAs}
+use Rattle.durable_state.specs.Entries.{BeginsAs}
 use Rattle.durable_state.specs.Logged.{AreLoggable}
 use Rattle.durable_state.specs.Going.{Goes}
 use Rattle.durable_state.specs.Held.{Held, HasFailed}

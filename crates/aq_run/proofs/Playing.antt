@@ -14,7 +14,7 @@ use Rattle.world_laws.specs.ValidWorld.{AreScripts}
 use Rattle.world_laws.specs.WorldLaws.{MayBegin}
 use Rattle.queue_rows.specs.Legal.{IsLegalHistory, opens}
 use Rattle.run_turns.proofs.Calling.{session-opened, scripts-opened, entries-opened}
-use Rattle.run_state.specs.Entries.{BeginsAs}
+use Rattle.durable_state.specs.Entries.{BeginsAs}
 use Rattle.aq_world.specs.Turning.{IsOfRun}
 use Rattle.aq_run.specs.Progress.{AreAt, AreTold}
 use Rattle.aq_run.specs.Serve.{empty_history}

@@ -14,8 +14,8 @@ use Rattle.redo_journal.specs.Journaled.{Journaled}
 use Rattle.redo_journal.specs.Runs.{IsDiskSettled}
 use Rattle.redo_records.specs.Recovered.{recovered}
 use Rattle.durable_state.specs.Logged.{AreLoggable}
-use Rattle.crash_laws.specs.Crash.{Run, RecoversFirst, SurvivesCrash}
-use Rattle.run_state.specs.Entries.{BeginsAs}
+use Rattle.durable_state.specs.Crash.{Run, RecoversFirst, SurvivesCrash}
+use Rattle.durable_state.specs.Entries.{BeginsAs}
 use Rattle.durable_state.specs.Held.{Held}
 use Rattle.durable_state.specs.Survival.{run_at, LogsRun, SurvivesAt}
 use Rattle.aq_world.specs.Mounting.{RecoversTo, KeepsRecovered}

@@ -7,7 +7,7 @@ use Rattle.queue_rows.specs.declared.tables.Tables.{Tables}
 use Rattle.redo_journal.specs.Journaled.{Journaled}
 use Rattle.redo_journal.specs.Runs.{IsDiskSettled}
 use Rattle.redo_records.specs.Recovered.{recovered}
-use Rattle.database_recovery.specs.Sound.{IsSound}
+use Rattle.durable_state.specs.Sound.{IsSound}
 use Rattle.durable_state.specs.Logged.{Logs}
 use Rattle.durable_state.specs.Held.{Held, HasFailed}
 use Rattle.aq_world.specs.Mounting.{RecoversTo, IsRecovered, KeepsRecovered, IsOpened, IsLogCause, HasMountCause}

@@ -22,7 +22,7 @@ use Rattle.queue_rows.specs.declared.history.Step.{Step}
 use Rattle.queue_rows.specs.declared.history.Step.TheVariants.{Call, Park, Timer, Offer, Arrive, Confirm, Told, Flush, End}
 use Rattle.queue_rows.specs.declared.tables.Tables.{Tables}
 use Rattle.queue_rows.proofs.Sessions.{get_set-cases}
-use Rattle.database_recovery.specs.Sound.{IsSound as IsSoundTables}
+use Rattle.durable_state.specs.Sound.{IsSound as IsSoundTables}
 use Rattle.sessions.specs.Numbers.{IsPendable}
 use Rattle.world_laws.specs.ValidWorld.{AreScripts}
 use Rattle.world_laws.specs.WorldLaws.{MayBegin}

@@ -9,7 +9,7 @@ use Rattle.redo_journal.specs.Runs.{CrashLeaves}
 use Rattle.redo_records.specs.Recovered.{recovered}
 use Rattle.queue_rows.specs.World.{World}
 use Rattle.queue_rows.specs.declared.tables.Tables.{Tables}
-use Rattle.database_recovery.specs.Sound.{IsSound}
+use Rattle.durable_state.specs.Sound.{IsSound}
 use Rattle.durable_state.specs.Logged.{RecoversSame}
 use Rattle.durable_state.specs.Mounting.{IsMountedOn}
 use Rattle.aq_world.specs.declared.mount.MountCause.{MountCause}

@@ -9,7 +9,7 @@ use Rattle.queue_rows.specs.declared.tables.Tables.{Tables}
 use Rattle.queue_rows.specs.declared.change.Commit.{Commit}
 use Rattle.redo_records.specs.Spellable.{CanBeSpelled}
 use Rattle.fate_laws.specs.Made.{after_commits}
-use Rattle.history_fates.specs.LegalFates.{all_fit}
+use Rattle.crash_laws.specs.LegalFates.{all_fit}
 use Rattle.commit_log.specs.Logged.{AreLoggable}
 use Rattle.commit_log.specs.LogLaws.{LoggableSoFar}
 

@@ -9,7 +9,7 @@ use Rattle.queue_rows.specs.Tables.{empty_tables}
 use Rattle.queue_rows.specs.declared.tables.Tables.{Tables}
 use Rattle.queue_rows.specs.declared.change.Commit.{Commit}
 use Rattle.fate_laws.specs.Made.{after_commits}
-use Rattle.history_fates.specs.LegalFates.{all_fit}
+use Rattle.crash_laws.specs.LegalFates.{all_fit}
 
 -- each commit fits the tables that those before it leave, and can be spelled
 pub record AreLoggable (opening : Tables) (commits : List Commit) : Type 0 where

@@ -1,6 +1,6 @@
 -- What the mount of a log answers.
 use Rattle.std.specs.Prelude.{◌≡◌, ℕ, List, Option, Some, Result, Ok, Err}
-use Rattle.message_store.specs.Stored.{Stored}
+use Rattle.database_recovery.specs.Stored.{Stored}
 use Rattle.redo_journal.specs.Journal.{Mounted, bodies_in}
 use Rattle.redo_journal.specs.Journaled.{Journaled, Rests}
 use Rattle.redo_records.specs.Recovered.{after_bodies}

@@ -13,7 +13,7 @@ use crate::anew::{WRITTEN_VERSION, written_anew};
 use crate::read::read_from;
 use crate::{CommitLog, LogFault};
 use aq_disk::Disk;
-use message_store::PreparedStore;
+use database_recovery::PreparedStore;
 use std::alloc::Global;
 
 impl<D: Disk> CommitLog<D> {

@@ -13,10 +13,9 @@ ghost use Rattle.commit_log.specs.Mounting.{HoldsTables, IsDamageOf, IsFault, di
 use crate::LogFault;
 use aq_disk::Disk;
 use database_recovery::{
-    RecoveryFault, damage_recovers, damaged_at, frames_lead, journal_recovers, mount_recovers,
-    recover,
+    PreparedStore, RecoveryFault, damage_recovers, damaged_at, frames_lead, journal_recovers,
+    mount_recovers, recover,
 };
-use message_store::PreparedStore;
 use redo_journal::{Journal, MountFault};
 use std::alloc::{AllocError, Global};
 

@@ -12,3 +12,4 @@ pub use laws::{
     append_recovers, bodies_join, commit_leads_on, contents_recover, damage_recovers, frames_lead,
     journal_recovers, mount_recovers,
 };
+pub use message_store::PreparedStore;

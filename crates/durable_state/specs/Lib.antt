@@ -8,3 +8,6 @@ pub mod Survival
 pub mod Writing
 pub use Rattle.commit_log.specs.Logged
 pub use Rattle.commit_log.specs.Mounting as LogMounting
+pub use Rattle.commit_log.specs.Sound
+pub use Rattle.crash_laws.specs.Crash
+pub use Rattle.run_state.specs.Entries

@@ -1,6 +1,6 @@
 // The steps of a run that make no call on a disk. What they commit is queued in the logs, and made durable by the next flush.
 ghost use Rattle.std.specs.Prelude.{◌≡◌, ◌<◌, ◌+◌, ◌^◌, ℕ, OnOk, OnErr, IsOk};
-ghost use Rattle.propagation.specs.Outcomes.{meant};
+ghost use Rattle.run_state.specs.Outcomes.{meant};
 ghost use Rattle.queue_rows.specs.declared.history.Step.TheVariants.{Timer};
 ghost use Rattle.queue_rows.specs.World.{other_db, database_at, read_clock, stepped};
 ghost use Rattle.queue_rows.specs.Sending.{offers, arrives, confirms, sent, home_of, away_of};
@@ -15,9 +15,8 @@ use crate::run_logs::{Entered, EnteredAt};
 use aq_base::DbId;
 use aq_disk::Disk;
 use payload_records::{List, Name};
-use propagation::Arriving;
 use queue_rows::{Change, SlotRef};
-use run_state::CallEffect;
+use run_state::{Arriving, CallEffect};
 use std::alloc::AllocError;
 
 /// What is committed at home and at away, of what is at one of them and at the other one; and back.

@@ -1,1 +1,2 @@
 pub mod GroupedMarks
+pub use Rattle.message_choice.specs.Sound as ChoiceSound

@@ -23,7 +23,7 @@ use Rattle.queue_rows.proofs.Sessions.{get_set-cases}
 use Rattle.valid_laws.specs.Openness.{is_open_at}
 use Rattle.valid_laws.proofs.Parts.{valid_distinct}
 use Rattle.statement_laws.proofs.Among.{each_found}
-use Rattle.message_choice.specs.Sound.{AreInGroups}
+use Rattle.mark_laws.specs.ChoiceSound.{AreInGroups}
 use Rattle.world_laws.specs.WorldLaws.{MayBegin}
 use Rattle.world_laws.proofs.Worlds.{fresh_empty}
 use Rattle.history_fates.proofs.Making.{own_db}

@@ -11,3 +11,4 @@ pub mod Sendings
 pub mod Stepping
 pub mod Working
 pub mod Worlds
+pub use Rattle.history_fates.proofs.Commits

@@ -4,3 +4,4 @@ pub mod Entries
 pub mod Promises
 pub mod Reserved
 pub mod Sendings
+pub use Rattle.propagation.specs.Outcomes

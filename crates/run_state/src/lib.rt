@@ -14,6 +14,7 @@ mod transit;
 
 pub use call_effect::{CallEffect, Holdings};
 pub use message_store::PreparedStore;
+pub use propagation::Arriving;
 pub use reserved_list::ReservedList;
 pub use run_database::RunDatabase;
 pub use state::RunState;

@@ -14,7 +14,7 @@ use Rattle.queue_rows.specs.declared.history.SessionScript.{SessionScript}
 use Rattle.queue_rows.specs.declared.history.Step.{Step}
 use Rattle.queue_rows.specs.declared.history.Step.TheVariants.{Call, Park, Timer, Offer, Arrive, Confirm, Told, Flush, End}
 use Rattle.queue_rows.proofs.Sessions.{get_set-cases}
-use Rattle.world_laws.specs.WorldLaws.{MayBegin}
+use Rattle.run_laws.specs.WorldLaws.{MayBegin}
 use Rattle.queue_rows.specs.Sending.{offers, arrives, confirms, next_sending}
 use Rattle.queue_rows.specs.Serial.{rounds, at_closing, next_closing_turn, IsSerial}
 use Rattle.queue_rows.specs.Legal.{MayStep, IsLegal, opens, reads, steps}

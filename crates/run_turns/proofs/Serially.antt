@@ -7,7 +7,7 @@ use Rattle.queue_rows.specs.declared.tables.Tables.{Tables}
 use Rattle.queue_rows.specs.declared.history.Entry.{Entry}
 use Rattle.queue_rows.specs.declared.history.History.{History}
 use Rattle.queue_rows.specs.declared.history.SessionScript.{SessionScript}
-use Rattle.world_laws.specs.WorldLaws.{MayBegin}
+use Rattle.run_laws.specs.WorldLaws.{MayBegin}
 use Rattle.queue_rows.specs.Serial.{rounds, at_closing, next_closing_turn, IsSerial, IsSerialFront, AreSerial, IsOnTheWay, in_rounds, in_closing, in_all}
 use Rattle.queue_rows.specs.Legal.{IsLegal, opens, reads, steps, IsLegalBy, IsLegalHistory}
 use Rattle.run_laws.proofs.Worlds.{opens_valid}

@@ -27,7 +27,7 @@ use Rattle.queue_rows.specs.declared.history.Arrival.TheVariants.{Copied, Seen, 
 use Rattle.queue_rows.specs.declared.history.Step.{Step}
 use Rattle.queue_rows.specs.declared.history.Step.TheVariants.{Call, Park, Timer, Offer, Arrive, Confirm, Told, Flush, End}
 use Rattle.queue_rows.proofs.Sessions.{get_set-cases}
-use Rattle.history_fates.proofs.Commits.{empty_if}
+use Rattle.run_laws.proofs.Commits.{empty_if}
 use Rattle.queue_rows.specs.Sending.{taking_ids, with_transit, sent, offers, arrives, confirms, next_sending, ids_copied, home_of, away_of, pair_number, transit_after, came_to}
 use Rattle.run_laws.specs.ValidRun.{IsValidWorld}
 use Rattle.run_laws.proofs.Arriving.{ArrivesAs, as_seen, as_failed, as_copied}

@@ -8,7 +8,7 @@ use Rattle.queue_rows.specs.declared.history.Entry.{Entry}
 use Rattle.queue_rows.specs.declared.history.History.{History}
 use Rattle.queue_rows.specs.declared.history.SessionScript.{SessionScript}
 use Rattle.queue_rows.specs.declared.history.Step.TheVariants.{End}
-use Rattle.world_laws.specs.WorldLaws.{MayBegin}
+use Rattle.run_laws.specs.WorldLaws.{MayBegin}
 use Rattle.queue_rows.specs.Serial.{round, IsSerial, IsSerialFront}
 use Rattle.queue_rows.specs.Legal.{IsLegal, IsLegalBy, IsLegalHistory}
 

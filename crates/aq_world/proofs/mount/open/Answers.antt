@@ -1,5 +1,5 @@
 use Rattle.std.proofs.Common.{[], Ok, sym, ap, subst, ◌∙◌}
-use Rattle.database_recovery.specs.Sound.{IsSound}
+use Rattle.durable_state.specs.Sound.{IsSound}
 use Rattle.aq_world.specs.Mounting.{KeepsRecovered}
 use Rattle.aq_world.specs.Sound.{IsRunning}
 use Rattle.aq_world.proofs.Mounting.{if_passed, keeps_opened}
