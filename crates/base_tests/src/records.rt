@@ -1,313 +1,203 @@
-// The worked record types, records and properties, as JSON texts.
+// The worked record types, records and properties, as JSON.
+use crate::values::needs_send;
 use payload_records::{
-    Copied, Datum, Field, Kind, List, Name, Payload, PayloadFault, Prop, PropFault, Record,
-    RecordType, Text, TypeFault,
+    Copied, Datum, List, Payload, PayloadFault, Prop, PropFault, Record, RecordType, TypeFault,
 };
 use serde_json::Value;
 use std::alloc::{AllocError, Global};
 use std::test::Fail;
 
-// ---- texts
+// A record type, and then rows: what is read, a JSON value, and what comes of it. Records and faults are those of a payload by that type.
+const CASES: &str = r#"[
+    {"region": "text", "qty": "num"},
 
-// An object of so many members f0, f1, .. with one value.
-fn many_members(alloc: Global, count: usize, value: &str) -> Result<String, AllocError> {
-    let mut text = String::from_str(alloc, "{")?;
-    for at in 0..count {
-        let comma = if at == 0 { "" } else { "," };
-        write!(text, "{comma}\"f{at}\":{value}")?;
-    }
-    text.push_str("}")?;
-    Ok(text)
-}
+    ["type", {}, true],
+    ["type", {"region": "text", "qty": "num"}, true],
+    ["type", [], false],
+    ["type", {"Q": "num"}, false],
+    ["type", {"qty": "int"}, false],
+    ["type", {"qty": null}, false],
 
-// An object of one text of that length.
-fn long_text(alloc: Global, len: usize) -> Result<String, AllocError> {
-    let mut text = String::from_str(alloc, "{\"region\":\"")?;
-    for _ in 0..len {
-        text.push('x')?;
+    ["record", {"region": ""}, "{\"qty\":null,\"region\":null}"],
+    ["record", {"qty": ""}, "{\"qty\":null,\"region\":null}"],
+    ["record", {"qty": null}, "{\"qty\":null,\"region\":null}"],
+    ["record", {"region": "é", "qty": -5}, "{\"qty\":-5,\"region\":\"é\"}"],
+    ["record", {"qty": -9223372036854775808}, "{\"qty\":-9223372036854775808,\"region\":null}"],
+
+    ["fault", {"qty": 9223372036854775808}, ["wrong-kind", "qty"]],
+    ["fault", [], ["not-object", ""]],
+    ["fault", null, ["not-object", ""]],
+    ["fault", {"zz": null}, ["unknown-field", "zz"]],
+    ["fault", {"Q": 1}, ["unknown-field", "Q"]],
+    ["fault", {"qty": "3"}, ["wrong-kind", "qty"]],
+    ["fault", {"qty": 1.5}, ["wrong-kind", "qty"]],
+    ["fault", {"qty": true}, ["wrong-kind", "qty"]],
+    ["fault", {"region": {}}, ["wrong-kind", "region"]],
+    ["fault", {"zz": 1, "qty": "3"}, ["wrong-kind", "qty"]],
+    ["fault", {"region": 1, "b": 1}, ["unknown-field", "b"]],
+
+    ["properties", {}, []],
+    ["properties", {"zone": "n", "lvl": 2}, [["lvl", 2], ["zone", "n"]]],
+    ["properties", {"a": null, "b": "", "c": 0}, [["c", 0]]],
+    ["properties", {"Q": null}, null],
+    ["properties", {"a": 1, "b": true}, null],
+    ["properties", {"a": 9223372036854775808}, null],
+    ["properties", [], null],
+    ["properties", null, null]
+]"#;
+
+fn is_text(value: Option<&Value>, wanted: &str) -> bool {
+    match value {
+        Some(value) => value.as_str() == Some(wanted),
+        None => false,
     }
-    text.push_str("\"}")?;
-    Ok(text)
 }
 
 // ---- types
 
-// Whether the JSON text is a record type, which then is its own copy; if it is none, it is told so.
-fn is_type(alloc: Global, text: &str) -> Result<bool, Fail> {
-    let value = Value::from_str(alloc, text)?;
-    match RecordType::read(alloc, &value) {
-        Ok(kind) => Ok(is_copied(&kind)?),
-        Err(TypeFault::Bad) => Ok(false),
-        Err(TypeFault::Memory) => Err(Fail::from(AllocError)),
+fn is_type(alloc: Global, value: &Value, wanted: bool) -> bool {
+    match RecordType::read(alloc, value) {
+        Ok(kind) => wanted && kind.copied().is_ok(),
+        Err(fault) => !wanted && fault == TypeFault::Bad,
     }
 }
 
-fn is_copied(kind: &RecordType) -> Result<bool, AllocError> {
-    let copy = kind.copied()?;
-    Ok(copy == *kind)
-}
-
-const TYPES: [(&str, bool); 6] = [
-    ("{}", true),
-    ("{\"region\":\"text\",\"qty\":\"num\"}", true),
-    ("[]", false),
-    ("{\"Q\":\"num\"}", false),
-    ("{\"qty\":\"int\"}", false),
-    ("{\"qty\":null}", false),
-];
-
-#[test]
-fn types_are_read(rt: HostRuntime) -> Result<(), Fail> {
-    for (text, wanted) in TYPES {
-        assert!(rt; is_type(rt.alloc(), text)? == wanted, "{text}");
-    }
-    Ok(())
-}
-
-#[test]
-fn types_have_no_more_fields_than_they_may(rt: HostRuntime) -> Result<(), Fail> {
-    for (count, wanted) in [(32, true), (33, false)] {
-        let text = many_members(rt.alloc(), count, "\"num\"")?;
-        assert!(rt; is_type(rt.alloc(), text.as_str())? == wanted, "{count}");
-    }
-    Ok(())
-}
-
-fn number(alloc: Global, name: &str) -> Result<Field, Fail> {
-    let name = Name::read(alloc, name)?;
-    Ok(Field {
-        name,
-        kind: Kind::Num,
-    })
-}
-
-fn are_fields(alloc: Global, first: &str, second: &str) -> Result<bool, Fail> {
-    let mut fields = List::new(alloc);
-    fields.push(number(alloc, first)?)?;
-    fields.push(number(alloc, second)?)?;
-    Ok(RecordType::of(fields)?.is_some())
-}
-
-#[test]
-fn types_keep_their_order(rt: HostRuntime) -> Result<(), Fail> {
-    for (first, second, wanted) in [
-        ("a", "b", true),
-        ("b", "a", false),
-        ("a", "a", false),
-        ("a", "a1", true),
-    ] {
-        assert!(rt;
-            are_fields(rt.alloc(), first, second)? == wanted,
-            "{first} {second}"
-        );
-    }
-    Ok(())
+fn is_type_of_fields(kind: &RecordType) -> Result<bool, AllocError> {
+    let again = RecordType::of(kind.fields().copied()?)?;
+    Ok(again.is_some())
 }
 
 // ---- records
 
-fn type_of(alloc: Global, text: &str) -> Result<RecordType, Fail> {
-    let value = Value::from_str(alloc, text)?;
-    Ok(RecordType::read(alloc, &value)?)
-}
-
-fn payload_of(alloc: Global, text: &str) -> Result<Payload, Fail> {
-    let value = Value::from_str(alloc, text)?;
-    let payload = Payload::of(alloc, &value)?;
-    Ok(payload.copied()?)
+fn json_of(alloc: Global, kind: &RecordType, record: &Record) -> Result<Value, AllocError> {
+    needs_send(record);
+    let copy = record.copied()?;
+    copy.to_json(alloc, kind)
 }
 
 fn is_printed(
     alloc: Global,
     kind: &RecordType,
     record: &Record,
-    wanted: &str,
-) -> Result<bool, Fail> {
-    let value = record.to_json(alloc, kind)?;
+    wanted: &Value,
+) -> Result<bool, AllocError> {
+    let value = json_of(alloc, kind, record)?;
     let text = value.to_string(alloc)?;
-    Ok(text.as_str() == wanted)
+    Ok(wanted.as_str() == Some(text.as_str()))
 }
 
-fn is_copy_printed(
+// What is wrong, and with which member.
+fn told(fault: &PayloadFault) -> (&str, &str) {
+    match fault {
+        PayloadFault::NotObject => ("not-object", ""),
+        PayloadFault::UnknownField(key) => ("unknown-field", key.as_str()),
+        PayloadFault::WrongKind(name) => ("wrong-kind", name.as_str()),
+        PayloadFault::TooLong(name) => ("too-long", name.as_str()),
+        PayloadFault::Memory => ("memory", ""),
+    }
+}
+
+fn is_fault(fault: &PayloadFault, wanted: &Value) -> bool {
+    let (what, member) = told(fault);
+    is_text(wanted.get(0), what) && is_text(wanted.get(1), member)
+}
+
+fn payload_of(alloc: Global, value: &Value) -> Result<Payload, AllocError> {
+    let payload = Payload::of(alloc, value)?;
+    payload.copied()
+}
+
+// Whether a payload gives the record of that JSON text, or that fault.
+fn is_record(
     alloc: Global,
     kind: &RecordType,
-    record: &Record,
-    wanted: &str,
-) -> Result<bool, Fail> {
-    let copy = record.copied()?;
-    Ok(copy == *record && is_printed(alloc, kind, &copy, wanted)?)
-}
-
-fn is_fault(fault: &PayloadFault, wanted: &str) -> bool {
-    match fault {
-        PayloadFault::NotObject => wanted == "not-object",
-        PayloadFault::UnknownField(key) => wanted.strip_prefix("unknown-field ")
-            == Some(key.as_str()),
-        PayloadFault::WrongKind(name) => wanted.strip_prefix("wrong-kind ") == Some(name.as_str()),
-        PayloadFault::TooLong(name) => wanted.strip_prefix("too-long ") == Some(name.as_str()),
-        PayloadFault::Memory => false,
-    }
-}
-
-fn is_copied_fault(fault: &PayloadFault, wanted: &str) -> Result<bool, AllocError> {
-    let copy = fault.copied()?;
-    Ok(copy == *fault && is_fault(&copy, wanted))
-}
-
-// Whether the record of a payload by a type has that JSON text, or that is its fault.
-fn is_told(alloc: Global, kind: &RecordType, text: &str, wanted: &str) -> Result<bool, Fail> {
-    let payload = payload_of(alloc, text)?;
+    value: &Value,
+    wanted: &Value,
+) -> Result<bool, AllocError> {
+    let payload = payload_of(alloc, value)?;
     match Record::from_json(alloc, kind, &payload) {
-        Ok(record) => is_copy_printed(alloc, kind, &record, wanted),
-        Err(fault) => Ok(is_copied_fault(&fault, wanted)?),
+        Ok(record) => is_printed(alloc, kind, &record, wanted),
+        Err(fault) => Ok(is_fault(&fault.copied()?, wanted)),
     }
-}
-
-const RECORDS: [(&str, &str); 16] = [
-    ("{\"region\":\"\"}", "{\"qty\":null,\"region\":null}"),
-    ("{\"qty\":\"\"}", "{\"qty\":null,\"region\":null}"),
-    ("{\"qty\":null}", "{\"qty\":null,\"region\":null}"),
-    (
-        "{\"region\":\"é\",\"qty\":-5}",
-        "{\"qty\":-5,\"region\":\"é\"}",
-    ),
-    (
-        "{\"qty\":-9223372036854775808}",
-        "{\"qty\":-9223372036854775808,\"region\":null}",
-    ),
-    ("{\"qty\":9223372036854775808}", "wrong-kind qty"),
-    ("[]", "not-object"),
-    ("null", "not-object"),
-    ("{\"zz\":null}", "unknown-field zz"),
-    ("{\"Q\":1}", "unknown-field Q"),
-    ("{\"qty\":\"3\"}", "wrong-kind qty"),
-    ("{\"qty\":1.5}", "wrong-kind qty"),
-    ("{\"qty\":true}", "wrong-kind qty"),
-    ("{\"region\":{}}", "wrong-kind region"),
-    ("{\"zz\":1,\"qty\":\"3\"}", "wrong-kind qty"),
-    ("{\"region\":1,\"b\":1}", "unknown-field b"),
-];
-
-#[test]
-fn records_are_read_and_printed(rt: HostRuntime) -> Result<(), Fail> {
-    let kind = type_of(rt.alloc(), "{\"region\":\"text\",\"qty\":\"num\"}")?;
-    for (text, wanted) in RECORDS {
-        assert!(rt; is_told(rt.alloc(), &kind, text, wanted)?, "{text}");
-    }
-    Ok(())
-}
-
-fn is_long(alloc: Global, kind: &RecordType, len: usize) -> Result<bool, Fail> {
-    let text = long_text(alloc, len)?;
-    let wanted = if len > 4000 {
-        "too-long region"
-    } else {
-        text.as_str()
-    };
-    is_told(alloc, kind, text.as_str(), wanted)
-}
-
-#[test]
-fn texts_of_records_have_a_limit(rt: HostRuntime) -> Result<(), Fail> {
-    let kind = type_of(rt.alloc(), "{\"region\":\"text\"}")?;
-    for len in [4000, 4001] {
-        assert!(rt; is_long(rt.alloc(), &kind, len)?, "{len}");
-    }
-    Ok(())
-}
-
-fn has_cell(alloc: Global, kind: &RecordType, text: &str, cell: &Datum) -> Result<bool, Fail> {
-    let payload = payload_of(alloc, text)?;
-    let record = Record::from_json(alloc, kind, &payload)?;
-    Ok(record.cells.get(0) == Some(cell))
-}
-
-fn has_field(kind: &RecordType, name: &str) -> bool {
-    kind.fields()
-        .get(0)
-        .is_some_and(|field| field.name.as_str() == name)
-}
-
-#[test]
-fn parts_of_records_are_seen(rt: HostRuntime) -> Result<(), Fail> {
-    let kind = type_of(rt.alloc(), "{\"qty\":\"num\"}")?;
-    let has_cell = has_cell(rt.alloc(), &kind, "{\"qty\":3}", &Datum::Num(3))?;
-    assert!(rt; has_cell && has_field(&kind, "qty"));
-    Ok(())
 }
 
 // ---- properties
 
-fn put_prop(told: &mut String, prop: &Prop) -> Result<(), AllocError> {
-    match &prop.value {
-        Datum::Null => told.push_str("null"),
-        Datum::Num(number) => write!(told, "{}={number};", prop.name.as_str()),
-        Datum::Text(text) => write!(told, "{}='{}';", prop.name.as_str(), text.as_str()),
-    }
-}
-
-fn props_told(alloc: Global, props: &List<Prop>) -> Result<String, AllocError> {
-    let mut told = String::new(alloc);
-    for prop in props {
-        put_prop(&mut told, prop)?;
-    }
-    Ok(told)
-}
-
-fn props_of(alloc: Global, text: &str) -> Result<Option<List<Prop>>, Fail> {
-    let value = Value::from_str(alloc, text)?;
-    match Prop::read_all(alloc, &value) {
-        Ok(props) => Ok(Some(props)),
-        Err(PropFault::Bad) => Ok(None),
-        Err(PropFault::Memory) => Err(Fail::from(AllocError)),
-    }
-}
-
-// Whether these are the properties that a JSON text gives, or it gives none.
-fn gives(alloc: Global, text: &str, wanted: Option<&str>) -> Result<bool, Fail> {
-    match props_of(alloc, text)? {
-        Some(props) => {
-            let told = props_told(alloc, &props)?;
-            Ok(wanted == Some(told.as_str()))
+fn is_prop(prop: &Prop, wanted: &Value) -> bool {
+    is_text(wanted.get(0), prop.name.as_str())
+        && match (&prop.value, wanted.get(1)) {
+            (Datum::Num(number), Some(value)) => value.as_i64() == Some(*number),
+            (Datum::Text(text), value) => is_text(value, text.as_str()),
+            _ => false,
         }
-        None => Ok(wanted.is_none()),
+}
+
+fn are_props(props: &List<Prop>, wanted: &Value) -> bool {
+    let Some(wanted) = wanted.as_array() else {
+        return false;
+    };
+    for (prop, wanted) in props.iter().zip(wanted) {
+        if !is_prop(prop, wanted) {
+            return false;
+        }
+    }
+    props.len() == wanted.len()
+}
+
+fn gives_props(alloc: Global, value: &Value, wanted: &Value) -> bool {
+    match Prop::read_all(alloc, value) {
+        Ok(props) => are_props(&props, wanted),
+        Err(fault) => wanted.is_null() && fault == PropFault::Bad,
     }
 }
 
-const PROPS: [(&str, Option<&str>); 8] = [
-    ("{}", Some("")),
-    ("{\"zone\":\"n\",\"lvl\":2}", Some("lvl=2;zone='n';")),
-    ("{\"a\":null,\"b\":\"\",\"c\":0}", Some("c=0;")),
-    ("{\"Q\":null}", None),
-    ("{\"a\":1,\"b\":true}", None),
-    ("{\"a\":9223372036854775808}", None),
-    ("[]", None),
-    ("null", None),
-];
+// ---- all
 
-#[test]
-fn properties_are_read(rt: HostRuntime) -> Result<(), Fail> {
-    for (text, wanted) in PROPS {
-        assert!(rt; gives(rt.alloc(), text, wanted)?, "{text}");
+fn is_right(alloc: Global, kind: &RecordType, row: &Value) -> Result<bool, AllocError> {
+    let (Some(value), Some(wanted)) = (row.get(1), row.get(2)) else {
+        return Ok(false);
+    };
+    if is_text(row.get(0), "type") {
+        return Ok(is_type(alloc, value, wanted.as_bool() == Some(true)));
     }
-    Ok(())
+    if is_text(row.get(0), "properties") {
+        return Ok(gives_props(alloc, value, wanted));
+    }
+    is_record(alloc, kind, value, wanted)
+}
+
+// The first row that does not hold.
+fn first_wrong(
+    alloc: Global,
+    kind: &RecordType,
+    rows: &[Value],
+) -> Result<Option<usize>, AllocError> {
+    for (at, row) in rows.iter().enumerate() {
+        if !is_right(alloc, kind, row)? {
+            return Ok(Some(at));
+        }
+    }
+    Ok(None)
+}
+
+fn first_wrong_case(alloc: Global, cases: &Value) -> Result<Option<usize>, TypeFault> {
+    let Some(cases) = cases.as_array() else {
+        return Ok(Some(0));
+    };
+    let [kind, rows @ ..] = cases.as_slice() else {
+        return Ok(Some(0));
+    };
+    let kind = RecordType::read(alloc, kind)?;
+    if !is_type_of_fields(&kind)? {
+        return Ok(Some(0));
+    }
+    Ok(first_wrong(alloc, &kind, rows)?)
 }
 
 #[test]
-fn properties_have_limits(rt: HostRuntime) -> Result<(), Fail> {
-    for (count, wanted) in [(32, Some("")), (33, None)] {
-        let text = many_members(rt.alloc(), count, "null")?;
-        assert!(rt; gives(rt.alloc(), text.as_str(), wanted)?, "{count}");
-    }
-    Ok(())
-}
-
-#[test]
-fn texts_of_properties_have_a_limit(rt: HostRuntime) -> Result<(), Fail> {
-    for (len, is_read) in [(4000, true), (4001, false)] {
-        let text = long_text(rt.alloc(), len)?;
-        let props = props_of(rt.alloc(), text.as_str())?;
-        assert!(rt; props.is_some() == is_read, "{len}");
-    }
+fn types_records_and_properties_are_read(rt: HostRuntime) -> Result<(), Fail> {
+    let cases = Value::from_str(rt.alloc(), CASES)?;
+    let wrong = first_wrong_case(rt.alloc(), &cases)?;
+    assert!(rt; wrong.is_none(), "{wrong:?}");
     Ok(())
 }
