@@ -44,15 +44,17 @@ fn is_read(
 }
 
 // The third read fails, behind one that took a byte.
+fn are_read(alloc: Global, source: &mut MemorySource) -> bool {
+    is_read(alloc, source, 3, Ok(b"abc"))
+        && is_read(alloc, source, 9, Err(ReadFault::Failed))
+        && is_read(alloc, source, 9, Ok(b""))
+}
+
 #[test]
 fn sources_are_read_to_a_limit_or_a_fault(rt: HostRuntime) -> Result<(), AllocError> {
     let alloc = rt.alloc();
     let mut source = MemorySource::of(b"abcd".to_vec(alloc)?, [3].to_vec(alloc)?);
-    assert!(rt;
-        is_read(alloc, &mut source, 3, Ok(b"abc"))
-            && is_read(alloc, &mut source, 9, Err(ReadFault::Failed))
-            && is_read(alloc, &mut source, 9, Ok(b""))
-    );
+    assert!(rt; are_read(alloc, &mut source));
     Ok(())
 }
 

@@ -216,11 +216,20 @@ fn is_right(alloc: Global, case: &Case) -> Result<bool, AllocError> {
     is_as_told(&mut disk, alloc, case)
 }
 
+// The first case that is not as it is told.
+fn first_wrong(alloc: Global, cases: &[Case]) -> Result<Option<usize>, AllocError> {
+    for (at, case) in cases.iter().enumerate() {
+        if !is_right(alloc, case)? {
+            return Ok(Some(at));
+        }
+    }
+    Ok(None)
+}
+
 #[test]
 fn calls_are_answered_and_leave_their_images(rt: HostRuntime) -> Result<(), AllocError> {
-    for (at, case) in CASES.iter().enumerate() {
-        assert!(rt; is_right(rt.alloc(), case)?, "case {at}");
-    }
+    let wrong = first_wrong(rt.alloc(), &CASES)?;
+    assert!(rt; wrong.is_none(), "case {wrong:?}");
     Ok(())
 }
 
@@ -262,17 +271,31 @@ where
         && (disk.calls(), disk.faults()) == (7, 2)
 }
 
-fn is_made(rt: &HostRuntime) -> Result<bool, AllocError> {
-    let mut disk = FileDisk::at(rt.clone()?, rt.alloc(), PATH)?;
-    Ok(is_a_disk(&mut disk))
+// What a file is, as far as its path leads to one.
+#[derive(Clone, Copy)]
+enum Told {
+    New,
+    Length(u64),
+    Nothing,
 }
 
-// Whether a file tells that length, and can be synced where it does.
-fn is_seen(rt: &HostRuntime, path: &str, length: Result<u64, Failed>) -> Result<bool, AllocError> {
+fn is_told<R: Files + Drop>(disk: &mut FileDisk<R>, told: Told) -> bool
+where
+    R::File: FileExt,
+{
+    match told {
+        Told::New => is_a_disk(disk),
+        Told::Length(length) => disk.len() == Ok(length),
+        Told::Nothing => {
+            let answers = (disk.len(), disk.sync());
+            answers == (Err(Failed), Err(Failed)) && (disk.calls(), disk.faults()) == (2, 2)
+        }
+    }
+}
+
+fn is_file(rt: &HostRuntime, path: &str, told: Told) -> Result<bool, AllocError> {
     let mut disk = FileDisk::at(rt.clone()?, rt.alloc(), path)?;
-    let answers = (disk.len(), disk.sync().is_ok());
-    let faults = if length.is_ok() { 0 } else { 2 };
-    Ok(answers == (length, length.is_ok()) && (disk.calls(), disk.faults()) == (2, faults))
+    Ok(is_told(&mut disk, told))
 }
 
 fn is_removed(rt: &HostRuntime, path: &str) -> bool {
@@ -281,8 +304,8 @@ fn is_removed(rt: &HostRuntime, path: &str) -> bool {
 
 #[test]
 fn a_file_reads_as_it_was_written(rt: HostRuntime) -> Result<(), AllocError> {
-    let is_made = is_made(&rt)?;
-    let is_there = is_seen(&rt, PATH, Ok(7))?;
+    let is_made = is_file(&rt, PATH, Told::New)?;
+    let is_there = is_file(&rt, PATH, Told::Length(7))?;
     let is_removed = is_removed(&rt, PATH);
     assert!(rt; is_made && is_there && is_removed);
     Ok(())
@@ -290,6 +313,6 @@ fn a_file_reads_as_it_was_written(rt: HostRuntime) -> Result<(), AllocError> {
 
 #[test]
 fn a_file_in_no_folder_fails(rt: HostRuntime) -> Result<(), AllocError> {
-    assert!(rt; is_seen(&rt, "no-such-folder/aq_disk.test", Err(Failed))?);
+    assert!(rt; is_file(&rt, "no-such-folder/aq_disk.test", Told::Nothing)?);
     Ok(())
 }

@@ -15,8 +15,10 @@ const IN_ORDER: [(&[i64], &[i64]); 5] = [
     (&[0, 6, 1], &[]),
 ];
 
+// A copy of the place of these numbers.
 fn place_of(alloc: Global, numbers: &[i64]) -> Result<Place, AllocError> {
-    Ok(Place::from_numbers(numbers.to_vec(alloc)?))
+    let place = Place::from_numbers(numbers.to_vec(alloc)?);
+    place.copied()
 }
 
 fn is_before(earlier: &Place, place: &Place) -> bool {
@@ -40,8 +42,7 @@ fn places_stand_in_their_order(rt: HostRuntime) -> Result<(), AllocError> {
 // A place before another that stands before none.
 fn put_before(alloc: Global) -> Result<Place, PlaceFault> {
     let place = Place::of(alloc, 0, &[5], 2)?;
-    let earlier = before(alloc, &place, 1, 3)?;
-    Ok(earlier.copied()?)
+    before(alloc, &place, 1, 3)
 }
 
 #[test]
@@ -52,27 +53,23 @@ fn places_are_put_before_others(rt: HostRuntime) -> Result<(), PlaceFault> {
 
 // ---- sort lists
 
-fn has_columns(list: &SortList, columns: &[Column]) -> Result<bool, AllocError> {
-    let copy = list.copied()?;
-    Ok(copy.columns().len() == columns.len() && copy.columns().get(0) == columns.first())
-}
-
 fn is_sort_list(alloc: Global, columns: &[Column]) -> Result<bool, AllocError> {
     match SortList::of(List::from_vec(columns.to_vec(alloc)?)) {
-        Some(list) => has_columns(&list, columns),
+        Some(list) => Ok(list.copied().is_ok()),
         None => Ok(false),
     }
 }
 
 fn is_usual(alloc: Global) -> Result<bool, AllocError> {
     let usual = SortList::by_enqueue_time(alloc)?;
-    has_columns(&usual, &[Column::EnqTime])
+    Ok(usual.columns().get(0) == Some(&Column::EnqTime))
 }
 
 #[test]
 fn sort_lists_have_one_column_or_two(rt: HostRuntime) -> Result<(), AllocError> {
-    assert!(rt; is_sort_list(rt.alloc(), &[Column::CommitTime, Column::Priority])?);
-    assert!(rt; !is_sort_list(rt.alloc(), &[Column::EnqTime, Column::EnqTime])?);
-    assert!(rt; is_usual(rt.alloc())?);
+    let alloc = rt.alloc();
+    let is_pair = is_sort_list(alloc, &[Column::CommitTime, Column::Priority])?;
+    let is_twice = is_sort_list(alloc, &[Column::EnqTime, Column::EnqTime])?;
+    assert!(rt; is_pair && !is_twice && is_usual(alloc)?);
     Ok(())
 }

@@ -1,7 +1,8 @@
 // The worked record types, records and properties, as JSON.
 use crate::values::needs_send;
 use payload_records::{
-    Copied, Datum, List, Payload, PayloadFault, Prop, PropFault, Record, RecordType, TypeFault,
+    Copied, Datum, Field, List, Payload, PayloadFault, Prop, PropFault, Record, RecordType,
+    TypeFault,
 };
 use serde_json::Value;
 use std::alloc::{AllocError, Global};
@@ -55,16 +56,25 @@ fn is_text(value: Option<&Value>, wanted: &str) -> bool {
 
 // ---- types
 
-fn is_type(alloc: Global, value: &Value, wanted: bool) -> bool {
-    match RecordType::read(alloc, value) {
-        Ok(kind) => wanted && kind.copied().is_ok(),
-        Err(fault) => !wanted && fault == TypeFault::Bad,
+fn is_type_of(fields: List<Field>) -> bool {
+    match RecordType::of(fields) {
+        Ok(kind) => kind.is_some(),
+        Err(_) => false,
     }
 }
 
-fn is_type_of_fields(kind: &RecordType) -> Result<bool, AllocError> {
-    let again = RecordType::of(kind.fields().copied()?)?;
-    Ok(again.is_some())
+fn is_type_of_its_fields(kind: &RecordType) -> bool {
+    match kind.fields().copied() {
+        Ok(fields) => is_type_of(fields),
+        Err(_) => false,
+    }
+}
+
+fn is_type(alloc: Global, value: &Value, wanted: bool) -> bool {
+    match RecordType::read(alloc, value) {
+        Ok(kind) => wanted && kind.copied().is_ok() && is_type_of_its_fields(&kind),
+        Err(fault) => !wanted && fault == TypeFault::Bad,
+    }
 }
 
 // ---- records
@@ -75,15 +85,18 @@ fn json_of(alloc: Global, kind: &RecordType, record: &Record) -> Result<Value, A
     copy.to_json(alloc, kind)
 }
 
-fn is_printed(
-    alloc: Global,
-    kind: &RecordType,
-    record: &Record,
-    wanted: &Value,
-) -> Result<bool, AllocError> {
-    let value = json_of(alloc, kind, record)?;
-    let text = value.to_string(alloc)?;
-    Ok(wanted.as_str() == Some(text.as_str()))
+fn is_json(alloc: Global, value: &Value, wanted: &Value) -> bool {
+    match value.to_string(alloc) {
+        Ok(text) => wanted.as_str() == Some(text.as_str()),
+        Err(_) => false,
+    }
+}
+
+fn is_printed(alloc: Global, kind: &RecordType, record: &Record, wanted: &Value) -> bool {
+    match json_of(alloc, kind, record) {
+        Ok(value) => is_json(alloc, &value, wanted),
+        Err(_) => false,
+    }
 }
 
 // What is wrong, and with which member.
@@ -97,9 +110,24 @@ fn told(fault: &PayloadFault) -> (&str, &str) {
     }
 }
 
-fn is_fault(fault: &PayloadFault, wanted: &Value) -> bool {
+fn is_told(fault: &PayloadFault, wanted: &Value) -> bool {
     let (what, member) = told(fault);
     is_text(wanted.get(0), what) && is_text(wanted.get(1), member)
+}
+
+fn is_fault(fault: &PayloadFault, wanted: &Value) -> bool {
+    match fault.copied() {
+        Ok(copy) => is_told(&copy, wanted),
+        Err(_) => false,
+    }
+}
+
+// Whether a payload gives the record of that JSON text, or that fault.
+fn gives(alloc: Global, kind: &RecordType, payload: &Payload, wanted: &Value) -> bool {
+    match Record::from_json(alloc, kind, payload) {
+        Ok(record) => is_printed(alloc, kind, &record, wanted),
+        Err(fault) => is_fault(&fault, wanted),
+    }
 }
 
 fn payload_of(alloc: Global, value: &Value) -> Result<Payload, AllocError> {
@@ -107,17 +135,10 @@ fn payload_of(alloc: Global, value: &Value) -> Result<Payload, AllocError> {
     payload.copied()
 }
 
-// Whether a payload gives the record of that JSON text, or that fault.
-fn is_record(
-    alloc: Global,
-    kind: &RecordType,
-    value: &Value,
-    wanted: &Value,
-) -> Result<bool, AllocError> {
-    let payload = payload_of(alloc, value)?;
-    match Record::from_json(alloc, kind, &payload) {
-        Ok(record) => is_printed(alloc, kind, &record, wanted),
-        Err(fault) => Ok(is_fault(&fault.copied()?, wanted)),
+fn is_record(alloc: Global, kind: &RecordType, value: &Value, wanted: &Value) -> bool {
+    match payload_of(alloc, value) {
+        Ok(payload) => gives(alloc, kind, &payload, wanted),
+        Err(_) => false,
     }
 }
 
@@ -133,15 +154,13 @@ fn is_prop(prop: &Prop, wanted: &Value) -> bool {
 }
 
 fn are_props(props: &List<Prop>, wanted: &Value) -> bool {
-    let Some(wanted) = wanted.as_array() else {
-        return false;
-    };
-    for (prop, wanted) in props.iter().zip(wanted) {
-        if !is_prop(prop, wanted) {
-            return false;
+    for (at, prop) in props.iter().enumerate() {
+        match wanted.get(at) {
+            Some(wanted) if is_prop(prop, wanted) => {}
+            _ => return false,
         }
     }
-    props.len() == wanted.len()
+    wanted.is_array() && wanted.get(props.len()).is_none()
 }
 
 fn gives_props(alloc: Global, value: &Value, wanted: &Value) -> bool {
@@ -153,51 +172,50 @@ fn gives_props(alloc: Global, value: &Value, wanted: &Value) -> bool {
 
 // ---- all
 
-fn is_right(alloc: Global, kind: &RecordType, row: &Value) -> Result<bool, AllocError> {
+fn is_right(alloc: Global, kind: &RecordType, row: &Value) -> bool {
     let (Some(value), Some(wanted)) = (row.get(1), row.get(2)) else {
-        return Ok(false);
+        return false;
     };
     if is_text(row.get(0), "type") {
-        return Ok(is_type(alloc, value, wanted.as_bool() == Some(true)));
+        is_type(alloc, value, wanted.as_bool() == Some(true))
+    } else if is_text(row.get(0), "properties") {
+        gives_props(alloc, value, wanted)
+    } else {
+        is_record(alloc, kind, value, wanted)
     }
-    if is_text(row.get(0), "properties") {
-        return Ok(gives_props(alloc, value, wanted));
-    }
-    is_record(alloc, kind, value, wanted)
 }
 
-// The first row that does not hold.
-fn first_wrong(
-    alloc: Global,
-    kind: &RecordType,
-    rows: &[Value],
-) -> Result<Option<usize>, AllocError> {
+fn first_wrong(alloc: Global, kind: &RecordType, rows: &[Value]) -> Option<usize> {
     for (at, row) in rows.iter().enumerate() {
-        if !is_right(alloc, kind, row)? {
-            return Ok(Some(at));
+        if !is_right(alloc, kind, row) {
+            return Some(at);
         }
     }
-    Ok(None)
+    None
 }
 
-fn first_wrong_case(alloc: Global, cases: &Value) -> Result<Option<usize>, TypeFault> {
-    let Some(cases) = cases.as_array() else {
-        return Ok(Some(0));
-    };
-    let [kind, rows @ ..] = cases.as_slice() else {
-        return Ok(Some(0));
-    };
-    let kind = RecordType::read(alloc, kind)?;
-    if !is_type_of_fields(&kind)? {
-        return Ok(Some(0));
+fn rows_of(cases: &Value) -> &[Value] {
+    match cases.as_array() {
+        Some(rows) => rows.as_slice(),
+        None => &[],
     }
-    Ok(first_wrong(alloc, &kind, rows)?)
+}
+
+// The first row behind the type that does not hold.
+fn first_wrong_of(alloc: Global, cases: &[Value]) -> Option<usize> {
+    let [kind, rows @ ..] = cases else {
+        return Some(0);
+    };
+    match RecordType::read(alloc, kind) {
+        Ok(kind) => first_wrong(alloc, &kind, rows),
+        Err(_) => Some(0),
+    }
 }
 
 #[test]
 fn types_records_and_properties_are_read(rt: HostRuntime) -> Result<(), Fail> {
     let cases = Value::from_str(rt.alloc(), CASES)?;
-    let wrong = first_wrong_case(rt.alloc(), &cases)?;
+    let wrong = first_wrong_of(rt.alloc(), rows_of(&cases));
     assert!(rt; wrong.is_none(), "{wrong:?}");
     Ok(())
 }
