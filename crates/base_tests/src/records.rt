@@ -210,10 +210,14 @@ fn first_wrong_of(alloc: Global, cases: &Value) -> usize {
     }
 }
 
+fn first_wrong_case(alloc: Global) -> Result<usize, Fail> {
+    let cases = Value::from_str(alloc, CASES)?;
+    Ok(first_wrong_of(alloc, &cases))
+}
+
 #[test]
 fn types_records_and_properties_are_read(rt: HostRuntime) -> Result<(), Fail> {
-    let cases = Value::from_str(rt.alloc(), CASES)?;
-    let wrong = first_wrong_of(rt.alloc(), &cases);
+    let wrong = first_wrong_case(rt.alloc())?;
     assert!(rt; wrong == 31, "row {wrong}");
     Ok(())
 }
