@@ -7,10 +7,11 @@ use std::cmp::Ordering;
 // ---- places
 
 // Each place stands before the one beside it.
-const IN_ORDER: [(&[i64], &[i64]); 5] = [
+const IN_ORDER: [(&[i64], &[i64]); 6] = [
     (&[-2, 9, 9], &[-1, 0]),
     (&[0, 5, 2, 3, 6], &[0, 5, 2, 3]),
     (&[0, 5, 2, 3], &[0, 5, 2, 4]),
+    (&[0, 5, 2, 4], &[0, 5, 2]),
     (&[0, 5, 2], &[0, 6, 1]),
     (&[0, 6, 1], &[]),
 ];
@@ -51,6 +52,37 @@ fn places_stand_in_their_order(rt: HostRuntime) -> Result<(), AllocError> {
     }
     assert!(rt; is_put_before(rt.alloc()));
     Ok(())
+}
+
+// ---- the deepest place
+
+// A place behind whose lane, column and sequence stand the numbers from 3 up to one.
+fn with_numbers(alloc: Global, past: u64) -> Result<Place, PlaceFault> {
+    let mut place = Place::of(alloc, 0, &[5], 2)?;
+    for number in 3..past {
+        place = before(alloc, &place, 1, number)?;
+    }
+    Ok(place)
+}
+
+fn is_deepest(alloc: Global) -> bool {
+    match with_numbers(alloc, 19) {
+        Ok(place) => place.numbers().len() == 19 && place.numbers().last() == Some(&18),
+        Err(_) => false,
+    }
+}
+
+fn is_too_deep(alloc: Global) -> bool {
+    match with_numbers(alloc, 20) {
+        Ok(_) => false,
+        Err(fault) => fault == PlaceFault::TooDeep,
+    }
+}
+
+#[test]
+fn places_go_no_deeper_than_they_may(rt: HostRuntime) {
+    assert!(rt; is_deepest(rt.alloc()));
+    assert!(rt; is_too_deep(rt.alloc()));
 }
 
 // ---- sort lists

@@ -221,3 +221,39 @@ fn types_records_and_properties_are_read(rt: HostRuntime) -> Result<(), Fail> {
     assert!(rt; wrong == 31, "row {wrong}");
     Ok(())
 }
+
+// ---- the longest text
+
+// An object of one text of that length.
+fn long_text(alloc: Global, len: usize) -> Result<String, AllocError> {
+    let mut text = String::from_str(alloc, "{\"region\":\"")?;
+    for _ in 0..len {
+        text.push('x')?;
+    }
+    text.push_str("\"}")?;
+    Ok(text)
+}
+
+fn is_taken(alloc: Global, kind: &Value, value: &Value, wanted: &Value) -> bool {
+    match RecordType::read(alloc, kind) {
+        Ok(kind) => is_record(alloc, &kind, value, wanted),
+        Err(_) => false,
+    }
+}
+
+// Whether a payload of a text that long comes to that print of a record, or that fault.
+fn comes_to(alloc: Global, len: usize, wanted: &Value) -> Result<bool, Fail> {
+    let kind = Value::from_str(alloc, "{\"region\":\"text\"}")?;
+    let text = long_text(alloc, len)?;
+    let value = Value::from_str(alloc, text.as_str())?;
+    Ok(is_taken(alloc, &kind, &value, wanted))
+}
+
+#[test]
+fn texts_of_records_have_a_limit(rt: HostRuntime) -> Result<(), Fail> {
+    let printed = Value::String(long_text(rt.alloc(), 4000)?);
+    let fault = Value::from_str(rt.alloc(), "[\"too-long\",\"region\"]")?;
+    assert!(rt; comes_to(rt.alloc(), 4000, &printed)?);
+    assert!(rt; comes_to(rt.alloc(), 4001, &fault)?);
+    Ok(())
+}
