@@ -1,4 +1,6 @@
 // Places in their order, and sort lists.
+ghost use Rattle.std.specs.Prelude.{◌≤◌};
+
 use payload_records::{Copied, List};
 use place_keys::{Column, Place, PlaceFault, SortList, before, compare};
 use std::alloc::{AllocError, Global};
@@ -57,7 +59,9 @@ fn places_stand_in_their_order(rt: HostRuntime) -> Result<(), AllocError> {
 // ---- the deepest place
 
 // A place behind whose lane, column and sequence stand the numbers from 3 up to one.
-fn with_numbers(alloc: Global, past: u64) -> Result<Place, PlaceFault> {
+fn with_numbers(alloc: Global, past: u64) -> Result<Place, PlaceFault>
+    requires { past ≤ 20 }
+{
     let mut place = Place::of(alloc, 0, &[5], 2)?;
     for number in 3..past {
         place = before(alloc, &place, 1, number)?;
