@@ -44,7 +44,7 @@ use Rattle.statement_laws.proofs.Ending.{commit_fits_for_sessions, rollback_fits
 use Rattle.statement_laws.proofs.Standing.{IsCommit, is_commit, IsRollback, is_rollback, standing_may_end, standing_later, commit_keeps_standing, rollback_keeps_standing}
 use Rattle.statement_laws.proofs.Stepping.{TakesSo, none, once, takes_so, HoldsSame, listen_same, enqueue_keeps_standing, dequeue_keeps_standing, listen_keeps_standing}
 use Rattle.statement_laws.proofs.Administering.{administration_keeps_standing}
-use Rattle.built_statements.specs.Ordered.{asks_ordered, is_ordered}
+use Rattle.world_laws.specs.Ordered.{asks_ordered, is_ordered}
 use Rattle.world_laws.specs.ValidWorld.{IsRight}
 use Rattle.world_laws.proofs.Ids.{takes_no_id}
 use Rattle.world_laws.proofs.Plain.{is_plain, committed_fields, committed_latest, commit_plain, rollback_plain, IsPlainJudged, judged_plain}

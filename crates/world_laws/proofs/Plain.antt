@@ -39,7 +39,7 @@ use Rattle.valid_laws.proofs.Going.{latest_same}
 use Rattle.valid_laws.proofs.Saying.{rollback_none}
 use Rattle.statement_laws.specs.EnqueueLaws.{has_ordered_fields}
 use Rattle.statement_laws.proofs.Administering.{removal_none}
-use Rattle.built_statements.specs.Ordered.{asks_ordered}
+use Rattle.world_laws.specs.Ordered.{asks_ordered}
 
 -- ---- plain changes
 

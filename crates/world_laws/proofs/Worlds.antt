@@ -23,7 +23,7 @@ use Rattle.valid_laws.proofs.Parts.{parts_of}
 use Rattle.valid_laws.proofs.Framing.{room_less}
 use Rattle.statement_laws.specs.StandingLaws.{count_held, AreStanding}
 use Rattle.statement_laws.proofs.Standing.{empty_are_standing}
-use Rattle.built_statements.specs.Ordered.{is_ordered}
+use Rattle.world_laws.specs.Ordered.{is_ordered}
 use Rattle.world_laws.specs.ValidWorld.{AreScripts, IsRight}
 use Rattle.world_laws.specs.WorldLaws.{MayBegin}
 

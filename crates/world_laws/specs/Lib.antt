@@ -1,3 +1,4 @@
 pub mod Examples
+pub mod Ordered
 pub mod ValidWorld
 pub mod WorldLaws

@@ -7,7 +7,7 @@ use Rattle.queue_rows.specs.Within.{are_within}
 use Rattle.queue_rows.specs.Valid.{is_valid}
 use Rattle.queue_rows.specs.declared.tables.Tables.{Tables}
 use Rattle.queue_rows.specs.declared.history.SessionScript.{SessionScript}
-use Rattle.built_statements.specs.Ordered.{are_ordered}
+use Rattle.world_laws.specs.Ordered.{are_ordered}
 use Rattle.statement_laws.specs.EnqueueLaws.{has_ordered_fields}
 use Rattle.statement_laws.specs.StandingLaws.{AreStanding}
 

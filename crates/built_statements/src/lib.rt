@@ -1,2 +1,0 @@
-//! That the tables which scripts create have their fields in order, as a definition.
-#![tactic(auto)]
