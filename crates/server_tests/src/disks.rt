@@ -64,3 +64,29 @@ fn damaged_and_failing_disks_are_told(rt: HostRuntime) -> Result<(), Fail> {
     }
     Ok(())
 }
+
+// Home's first sync, with which its journal begins, is its fourth call; its fifth sync, behind which the first commit counts, its
+// twelfth.
+const RUNS: &[Case] = &[
+    Case {
+        home: (EMPTY, &[4]),
+        away: (EMPTY, &[]),
+        status: 5,
+        text: "",
+    },
+    Case {
+        home: (EMPTY, &[12]),
+        away: (EMPTY, &[]),
+        status: 5,
+        text: "s1.1 create-table untold\n",
+    },
+];
+
+#[test]
+fn a_reply_is_untold_where_its_commit_is_not_durable(rt: HostRuntime) -> Result<(), Fail> {
+    for case in RUNS {
+        let is_so = is_told(rt.alloc(), SERIAL, FIRST_PATH.script, case)?;
+        assert!(rt; is_so, "{}", case.text);
+    }
+    Ok(())
+}
