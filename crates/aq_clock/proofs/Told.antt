@@ -26,7 +26,7 @@ module _ (rule : ℕ → ℕ) (count next : ℕ) (rises : count < 2 ^ 64 - 1 →
         parts.1 ∙ ap (first_readings rule) step ∙ map-range_with_len_more rule 0 count count (omega arith) ∙ ap (λ (x : ℕ). first_readings rule count ++ x ∷ []) (sym is),
       )
 
-  pub told_on : (before : List ℕ) → told rule count ≡ Some before → length before < 2 ^ 63 → IsSome (told rule next)
+  pub told_on : (before : List ℕ) → told rule count ≡ Some before → length before ≤ 2 ^ 63 → IsSome (told rule next)
   told_on before given short =
       let parts = told_some rule count before given in
       let many : length before ≡ count = ap length parts.1 ∙ length-map-range_with_len rule 0 count in

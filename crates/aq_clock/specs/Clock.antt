@@ -1,7 +1,7 @@
 -- The readings that a clock gives.
 use Rattle.std.specs.Prelude.{◌≡◌, ℕ, ◌+◌, ◌-◌, ◌^◌, ◌++◌, ◌∷◌, [], min, nat_lt, if◌then◌else◌, List, length, map, slice_index, Option, Some, None, IsSome}
 use Rattle.std.specs.List.{range_with_len}
-use Rattle.std.proofs.Common.{◌<◌, Bool, true, false, refl, sym, ◌∙◌, ap, arith}
+use Rattle.std.proofs.Common.{◌<◌, ◌≤◌, Bool, true, false, refl, sym, ◌∙◌, ap, arith}
 use Rattle.std.proofs.lemmas.Grind.{common_steps}
 use Rattle.std.proofs.lemmas.List.FromFn.{length-map-range_with_len}
 
@@ -9,9 +9,9 @@ use Rattle.std.proofs.lemmas.List.FromFn.{length-map-range_with_len}
 abbrev pub HasReading : Option (List ℕ) → ℕ → List ℕ → Type 0
 HasReading given reading readings = (before : List ℕ) × (given ≡ Some before) × (readings ≡ before ++ reading ∷ [])
 
--- behind these, for 2^63 of them at least, the readings are told
+-- behind these, where they are no more than 2^63, the readings are told
 abbrev pub TellsOn : Option (List ℕ) → List ℕ → Type 0
-TellsOn given before = length before < 2 ^ 63 → IsSome given
+TellsOn given before = length before ≤ 2 ^ 63 → IsSome given
 
 -- the readings of a rule for the numbers below a count
 abbrev pub first_readings : (ℕ → ℕ) → ℕ → List ℕ

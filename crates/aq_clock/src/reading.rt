@@ -16,7 +16,7 @@ pub trait Clock {
         // The readings are those from before, and this one.
         ensures reading { ForSome (given self.new) (HasReading (given self.old) result) }
 
-        // A clock that tells its readings goes on to, for 2^63 readings at least.
+        // A clock that tells its readings goes on to, also behind 2^63 of them.
         ensures tells { ForSome (given self.old) (TellsOn (given self.new)) }
         ensures planned { plan self.new ≡ plan self.old };
 
