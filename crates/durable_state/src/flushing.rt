@@ -1,5 +1,5 @@
 // The steps of a run that make its commits durable. They take no memory.
-ghost use Rattle.std.specs.Prelude.{◌≡◌, IsOk, IsSome, OnOk, OnErr};
+ghost use Rattle.std.specs.Prelude.{◌≡◌, IsOk, IsSome, OnOk, OnErr, true, false};
 ghost use Rattle.queue_rows.specs.Turns.{flushed, told};
 ghost use Rattle.session_registry.specs.Sessions.{IsAbsent, OfSession};
 ghost use Rattle.durable_state.specs.Going.{AddsEntries, Goes};
@@ -10,6 +10,14 @@ use crate::durable_state::DurableState;
 use aq_disk::Disk;
 
 impl<D: Disk> DurableState<D> {
+    /// Whether a call on a disk has failed, so that nothing can be made durable any more.
+    pub fn has_failed(&self) -> bool
+        ensures failed { result ≡ true → HasFailed self.now }
+        ensures fine { result ≡ false → HasFailed self.now → ⊥ }
+    {
+        self.logs.has_failed()
+    }
+
     /// Makes each commit durable, where one is not: all that is queued is written at home, and then at away. Where a call on a disk failed,
     /// now or before, nothing is durable that was not, and from then on nothing can be made so.
     pub fn flush(&mut self, actor: u32) -> Result<(), Halted>

@@ -38,6 +38,7 @@ impl<D: Disk> DurableState<D> {
         ensures entries { self.new.entries ≡ self.old.entries }
         ensures disks { Goes D.seen D.is_image D.calls D.faults self.old self.new }
         ensures fine { HasFailed self.new → HasFailed self.old }
+        ensures stays { HasFailed self.old → HasFailed self.new }
     {
         self.state.read_clock(reading);
     }
