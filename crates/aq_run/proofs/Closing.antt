@@ -119,8 +119,8 @@ telling_rests i w e = telling_none_some i (slice_get w.sessions i) w e
 
 -- a turn that came to its end saw none, and one that was halted did
 pub turn_ends : {T D : Type 0} (end : TurnEnd) (r : Result T Broken) (old new : Held D) → OnOk r (IsWhole end) → IfErr r (λ e. e ≡ breaks.Halted → end ≡ ends.Halted)
-    → (end ≡ ends.Halted → HasFailed new) → ((end ≡ ends.Halted → ⊥) → HasFailed new → HasFailed old) → EndsBy r old new
-turn_ends end (Ok x) old new whole halted failed fine = fine (λ e. subst IsWhole e whole)
+    → (end ≡ ends.Halted → HasFailed new) → ((end ≡ ends.Halted → ⊥) → HasFailed new → ⊥) → EndsBy r old new
+turn_ends end (Ok x) old new whole halted failed fine = λ is. absurd (fine (λ e. subst IsWhole e whole) is)
 turn_ends end (Err e) old new whole halted failed fine = λ is. failed (halted is)
 
 -- and so do turns one after another

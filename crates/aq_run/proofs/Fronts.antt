@@ -1,46 +1,27 @@
 -- Entries only grow from turn to turn.
-use Rattle.std.proofs.Common.{◌≡◌, ℕ, zero, suc, ◌+◌, ◌-◌, ◌<◌, Bool, true, false, List, Option, Some, None, sym, ap, subst, ◌∙◌, arith, length, add-one, refl}
-use Rattle.std.specs.Prelude.{◌++◌, slice_get, if◌then◌else◌}
+use Rattle.std.proofs.Common.{◌≡◌, ℕ, zero, suc, ◌+◌, ◌-◌, ◌<◌, List, Option, Some, None, sym, ap, subst, ◌∙◌, arith, length, add-one, refl}
+use Rattle.std.specs.Prelude.{◌++◌, slice_get}
 use Rattle.queue_rows.specs.Session.{Session, Untold}
 use Rattle.queue_rows.specs.Order.{IsFront}
 use Rattle.queue_rows.specs.declared.history.Entry.{Entry}
-use Rattle.queue_rows.specs.Statements.{next_statement}
 use Rattle.queue_rows.specs.World.{World}
-use Rattle.queue_rows.specs.Turns.{begun, own_turn, flushed, told, propagated, turn_of, turn_of_some, session_turn, telling_of, telling_of_some, telling_turn, timer_turn, propagator_turn, any_live, next_reading}
+use Rattle.queue_rows.specs.Turns.{next_reading, telling_of, telling_of_some, telling_turn}
 use Rattle.queue_rows.specs.Serial.{each, next_session_turn, next_timer_turn, next_propagator_turn, session_turns, telling_turns, round}
-use Rattle.run_turns.proofs.Growing.{Grows, front_trans, grows_trans, grows_self, grows_begun, grows_flushed, grows_own, grows_told, grows_propagated}
+use Rattle.run_turns.proofs.Growing.{Grows, front_trans, grows_trans, grows_self}
+use Rattle.aq_world.proofs.Fronts.{propagator_grows, session_grows, timer_grows, told_grows}
 
 -- the entries so far are those of the first world
 pub front_of : {xs ys zs : List Entry} → xs ≡ ys → IsFront ys zs → IsFront xs zs
 front_of e f = (f.0, ap (λ es. es ++ f.0) e ∙ f.1)
 
-grows_if : (b : Bool) (w new : World) → Grows w new → Grows w (if b then new else w)
-grows_if true w new g = g
-grows_if false w new g = grows_self w
-
 -- ---- each turn
 
-grows-told : (i : ℕ) (s : Session) (number : ℕ) (w : World) → Grows w (told i s number w)
-grows-told i s number w = grows_trans w (flushed i w) (told i s number w) (grows_flushed i w) (grows_told i s number w)
-
-grows_turn : (reading i : ℕ) (s : Session) (o : Option Untold) (w : World) → Grows w (turn_of reading i s o w)
-grows_turn reading i s (Some u) w = grows-told i s u.number w
-grows_turn reading i s None w =
-    let v = begun i reading w in
-    let new = own_turn i s (next_statement w i s) v in
-    grows_if s.live w new (grows_trans w v new (grows_begun i reading w) (grows_own i s (next_statement w i s) v))
-
-grows_some : (reading i : ℕ) (o : Option Session) (w : World) → Grows w (turn_of_some reading i o w)
-grows_some reading i None w = grows_self w
-grows_some reading i (Some s) w = grows_turn reading i s s.untold w
-
 pub grows-session_turn : (i : ℕ) (w : World) → Grows w (next_session_turn i w)
-unfolding session_turn
-grows-session_turn i w = grows_some (next_reading w) i (slice_get w.sessions i) w
+grows-session_turn i w = session_grows (next_reading w) i w
 
 telling_by : (i : ℕ) (s : Session) (o : Option Untold) (w : World) → Grows w (telling_of i s o w)
 telling_by i s None w = grows_self w
-telling_by i s (Some u) w = grows-told i s u.number w
+telling_by i s (Some u) w = told_grows i s u.number w
 
 telling_some : (i : ℕ) (o : Option Session) (w : World) → Grows w (telling_of_some i o w)
 telling_some i None w = grows_self w
@@ -51,14 +32,10 @@ unfolding telling_turn
 grows-telling_turn i w = telling_some i (slice_get w.sessions i) w
 
 grows-timer : (w : World) → Grows w (next_timer_turn w)
-unfolding timer_turn
-grows-timer w = grows_if (any_live w) w (begun 64 (next_reading w) w) (grows_begun 64 (next_reading w) w)
+grows-timer w = timer_grows (next_reading w) w
 
 grows-propagator : (w : World) → Grows w (next_propagator_turn w)
-unfolding propagator_turn
-grows-propagator w =
-    let v = begun 65 (next_reading w) w in
-    grows_if (any_live w) w (propagated 65 v) (grows_trans w v (propagated 65 v) (grows_begun 65 (next_reading w) w) (grows_propagated 65 v))
+grows-propagator w = propagator_grows (next_reading w) w
 
 -- ---- the turns of several sessions, one after another
 

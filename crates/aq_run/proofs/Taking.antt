@@ -47,7 +47,7 @@ broken_in turns (Err e) why old new is front halted = record { world = _; front 
 module _ {D C : Type 0} (given : C → Option (List ℕ)) (plan : C → Option (ℕ → ℕ)) (actor : ℕ) (old new : Clocked D C) (end : TurnEnd) (t : IsTurn given plan actor end old new) where
   pub takes_turned : {T : Type 0} (turns : World → World) (r : Result T Broken) → IsSerialClock given plan old → turned (next_reading old.held.world) actor old.held.world ≡ turns old.held.world
       → OnOk r (IsWhole end) → OnErr r (IsWhole end → ⊥) → IfErr r (λ e. e ≡ breaks.Halted → end ≡ ends.Halted)
-      → (end ≡ ends.Halted → HasFailed new.held) → ((end ≡ ends.Halted → ⊥) → HasFailed new.held → HasFailed old.held) → Takes turns r old new
+      → (end ≡ ends.Halted → HasFailed new.held) → ((end ≡ ends.Halted → ⊥) → HasFailed new.held → ⊥) → Takes turns r old new
   takes_turned turns r on same whole broken halted failed fine = record {
     world = ok_from r whole (λ w. turn_world given plan old new on actor end t w ∙ same);
     front = err_from r broken (λ b. subst (λ v. IsFront new.held.world.entries v.entries) same (turn_front given plan old new on actor end t b));

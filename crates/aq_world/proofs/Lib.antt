@@ -1,6 +1,8 @@
 pub mod Calls
 pub mod Doings
+pub mod Fronts
 pub mod Goings
+pub mod Halting
 pub mod Mounting
 pub mod Numbers
 pub mod OfRun

@@ -3,7 +3,6 @@ use Rattle.std.proofs.Common.{◌≡◌, ◌<◌, ◌≤◌, ◌+◌, ◌++◌, 
 use Rattle.std.specs.Prelude.{◌^◌, ◌⊎◌, IsSome, Ok, Err, OnOk, OnErr, IfOk, IfErr, MatchResult, ◌==◌, ◌||◌, nat_lt, slice_get, is_some, not, if◌then◌else◌}
 use Rattle.std.proofs.lemmas.Bool.{lt-ltb, or_left, false≢true}
 use Rattle.std.proofs.Math.Seq.{get_or-append_seam}
-use Rattle.std.proofs.lemmas.List.Elements.{All-nil}
 use Rattle.std.proofs.lemmas.List.FromFn.{get_or-map-range_with_len}
 use Rattle.std.specs.Option.{ForSome}
 use Rattle.aq_clock.specs.Clock.{HasReading, TellsOn, first_readings}
@@ -11,17 +10,15 @@ use Rattle.queue_rows.specs.Meaning.{Meaning, answers, parks}
 use Rattle.queue_rows.specs.Session.{Session}
 use Rattle.queue_rows.specs.declared.history.SessionScript.{SessionScript}
 use Rattle.queue_rows.specs.declared.tables.Tables.{Tables}
-use Rattle.sessions.specs.Numbers.{IsPendable}
 use Rattle.world_laws.specs.WorldLaws.{MayBegin}
 use Rattle.queue_rows.specs.World.{World, opened, read_clock}
 use Rattle.queue_rows.specs.Sending.{next_sending}
 use Rattle.queue_rows.specs.Legal.{IsLegal, opens, reads, steps, is_actor, is_sender}
 use Rattle.queue_rows.specs.Turns.{begun, caught_up, flushed, drained, session_turn, timer_turn, propagator_turn, any_live, is_due, closing_turn, DrainsIn}
 use Rattle.run_laws.specs.ValidRun.{IsValidWorld}
-use Rattle.run_laws.proofs.Grouping.{opens_grouped}
 use Rattle.run_laws.proofs.Worlds.{opens_valid}
 use Rattle.run_turns.proofs.Began.{legal_began, began_so, opened_again}
-use Rattle.run_turns.proofs.Calling.{entries-opened, session-opened}
+use Rattle.run_turns.proofs.Calling.{entries-opened}
 use Rattle.run_turns.proofs.Legally.{GoesOn, valid_now, session_turn_on, timer_on, propagator_on, closing_on, read_on, begun_on, flushed_on, begun_flushed_on, drains_on, drains_caught_on, drains_flushed_on}
 use Rattle.run_turns.proofs.OnReadings.{IsOnReadings, on_readings, on_readings_so}
 use Rattle.run_turns.proofs.Sounding.{opened_sound}
@@ -30,8 +27,8 @@ use Rattle.durable_state.specs.Held.{Held, HasFailed}
 use Rattle.durable_state.specs.declared.broken.Broken.{Broken}
 use Rattle.durable_state.specs.declared.broken.Broken.TheVariants as reasons
 use Rattle.aq_world.specs.Clocked.{IsClocked, Reads, TakesReading}
-use Rattle.aq_world.specs.Going.{GoesAs}
-use Rattle.aq_world.specs.Sound.{IsSound, IsSoundSession, IsRunning, start_of}
+use Rattle.aq_world.specs.Going.{GoesAs, Stops}
+use Rattle.aq_world.specs.Sound.{IsSound, IsRunning, start_of}
 use Rattle.aq_world.specs.Turning.{IsActor, IsUndone, IsBrokenOff, IsPartOfStep, IsPartDrained, IsDrainable, IsOfRun, IsWhole, broken_end, broken_if, reads_clock, is_owed, is_session, turned, next_meaning, end_by, session_end, background_end, timer_end, propagator_end, turn_end}
 use Rattle.aq_world.specs.declared.turn_end.TurnEnd.{TurnEnd}
 use Rattle.aq_world.specs.declared.turn_end.TurnEnd.TheVariants as ends
@@ -45,6 +42,14 @@ sound_from : (start : World) → IsSound start → (readings : List ℕ) (w : Wo
 sound_from start k rs w opens = k
 sound_from start k rs w (reads before v reading l) = sound_read v reading (sound_from start k before v l)
 sound_from start k rs w (steps before v new actor step l timely m) = step_sound v new actor step (sound_from start k before v l) m
+
+-- a running world is
+pub running_sound : (readings : List ℕ) (w : World) → IsRunning readings w → IsSound w
+running_sound readings w r = sound_from (start_of w) (sound_opened w.home.opening w.away.opening w.scripts r.begins) readings w r.legal
+
+-- in it there are few sessions
+pub running_few : (readings : List ℕ) (w : World) → IsRunning readings w → length w.sessions ≤ 64
+running_few readings w r = (running_sound readings w r).few
 
 same_begins : (a b c d : Tables) (xs ys : List SessionScript) → a ≡ c → b ≡ d → xs ≡ ys → MayBegin c d ys → MayBegin a b xs
 same_begins a b c d xs ys p q r m = subst (λ t. MayBegin t b xs) (sym p) (subst (λ t. MayBegin c t xs) (sym q) (subst (MayBegin c d) (sym r) m))
@@ -65,19 +70,6 @@ module _ (before : List ℕ) (w : World) (r : IsRunning before w) where
   start_empty : (start_of w).entries ≡ []
   start_empty = entries-opened w.home.opening w.away.opening w.scripts
 
-  start_sound : IsSound (start_of w)
-  start_sound =
-      let count = (legal_began (start_of w) before w r.legal).count in
-      let few = r.sound.few in
-      record {
-        valid = start_valid;
-        grouped = opens_grouped w.home.opening w.away.opening w.scripts;
-        few = omega (arith, count, few);
-        each = λ i s there.
-            let f = session-opened w.home.opening w.away.opening w.scripts i s there in
-            subst IsSoundSession (sym f.2) (record { few = omega arith; pendable = All-nil IsPendable });
-      }
-
   -- a world to which legal steps lead is running
   running_by : (readings : List ℕ) (new : World) → IsLegal (start_of w) readings new → length readings ≡ new.readings → IsRunning readings new
   running_by readings new legal count =
@@ -88,7 +80,6 @@ module _ (before : List ℕ) (w : World) (r : IsRunning before w) where
         opening = (legal_began (start_of w) readings new legal).opening ∙ ap (λ v. v.opening) (sym e);
         legal = subst (λ v. IsLegal v readings new) (sym e) legal;
         count = count;
-        sound = sound_from (start_of w) start_sound readings new legal;
       }
 
   module _ (reading : ℕ) where
@@ -199,7 +190,7 @@ last_planned rule before reading e =
 
 module _ {C : Type 0} (given : C → Option (List ℕ)) (plan : C → Option (ℕ → ℕ))
     (law : (clock : C) (readings : List ℕ) (rule : ℕ → ℕ) → given clock ≡ Some readings → plan clock ≡ Some rule → readings ≡ first_readings rule (length readings))
-    (number reading : ℕ) (old clock : C) (few : number < 2 ^ 63) (count : ForSome (given old) (λ rs. length rs ≡ number))
+    (number reading : ℕ) (old clock : C) (few : number ≤ 2 ^ 63) (count : ForSome (given old) (λ rs. length rs ≡ number))
     (taken : ForSome (given clock) (HasReading (given old) reading)) (on : ForSome (given old) (TellsOn (given clock))) (planned : plan clock ≡ plan old) where
   tells_more : IsSome (given old) → IsSome (given clock)
   tells_more some = let b = some_of (given old) some in on b.0 b.1 (let n = count b.0 b.1 in omega (arith, few, n))
@@ -334,12 +325,20 @@ halted_back (Ok x) t m e = absurd (cc)
 halted_back (Err reasons.Halted) t m e = m
 halted_back (Err reasons.Memory) t m e = absurd (cc)
 
+-- behind a failure it was
+pub turn_stops : {D : Type 0} (turn : Result TurnEnd Broken) (t : TurnEnd) (old new : Held D) → EndsAs turn t → Stops (turn ≡ Err reasons.Halted) old new → Stops (t ≡ ends.Halted) old new
+turn_stops turn t old new m stops failed = let s = stops failed in (halted_back turn t m s.0, s.1)
+
 module _ {D : Type 0} {actor : ℕ} {seen : D → Option (List ℕ)} {images : D → ℕ → List ℕ → Type 0} {calls faults : D → ℕ} where
   pub turn_halted : (turn : Result TurnEnd Broken) (t : TurnEnd) (old new : Held D) → EndsAs turn t → IfOk turn IsWhole → GoesAs actor seen images calls faults turn old new → t ≡ ends.Halted → HasFailed new
   turn_halted turn t old new m whole step e = step.halted (halted_so turn t m e whole)
 
-  pub turn_fine : (turn : Result TurnEnd Broken) (t : TurnEnd) (old new : Held D) → EndsAs turn t → GoesAs actor seen images calls faults turn old new → (t ≡ ends.Halted → ⊥) → HasFailed new → HasFailed old
-  turn_fine turn t old new m step other failed = step.fine (λ e. other (halted_back turn t m e)) failed
+  -- one that was not halted saw no failure, now or before
+  pub turn_fine : (turn : Result TurnEnd Broken) (t : TurnEnd) (old new : Held D) → EndsAs turn t → GoesAs actor seen images calls faults turn old new → Stops (turn ≡ Err reasons.Halted) old new
+      → (t ≡ ends.Halted → ⊥) → HasFailed new → ⊥
+  turn_fine turn t old new m step stops other failed =
+      let before = step.fine (λ e. other (halted_back turn t m e)) failed in
+      other (turn_stops turn t old new m stops before).0
 
 -- a turn that ended is whole
 pub if_turned : (turn : Result TurnEnd Broken) (reading actor : ℕ) (w : World) → IfOk turn (λ x. x ≡ turn_end reading actor w) → IfOk turn IsWhole
@@ -401,7 +400,7 @@ is_propagator w actor (inr (inr e)) few h = e
 
 pub opened_running : (home away : Tables) (scripts : List SessionScript) → MayBegin home away scripts → IsRunning [] (opened home away scripts)
 unfolding opened
-opened_running home away scripts m = record { begins = m; opening = refl; legal = opens; count = refl; sound = sound_opened home away scripts m }
+opened_running home away scripts m = record { begins = m; opening = refl; legal = opens; count = refl }
 
 home-opened : (home away : Tables) (scripts : List SessionScript) → (opened home away scripts).home.opening ≡ home
 unfolding opened

@@ -199,10 +199,10 @@ never_owed turn w actor few past owed = let there = owed_there w actor (slice_ge
 
 -- ---- turns that are broken off
 
-undone_broken : (actor reading : ℕ) (w new : World) → reads_clock actor w ≡ true → IsUndone actor reading w new → IsBrokenOff actor reading w new
+pub undone_broken : (actor reading : ℕ) (w new : World) → reads_clock actor w ≡ true → IsUndone actor reading w new → IsBrokenOff actor reading w new
 undone_broken actor reading w new e u = subst (λ b. broken_if b actor reading w new) (sym e) u
 
-untold_broken : (actor reading : ℕ) (w new : World) → reads_clock actor w ≡ false → IsUntold actor w new → IsBrokenOff actor reading w new
+pub untold_broken : (actor reading : ℕ) (w new : World) → reads_clock actor w ≡ false → IsUntold actor w new → IsBrokenOff actor reading w new
 untold_broken actor reading w new e u = subst (λ b. broken_if b actor reading w new) (sym e) u
 
 below : (i : ℕ) → i < 64 → is_session i ≡ true

@@ -17,3 +17,7 @@ pub record GoesAs {D T : Type 0} (actor : ℕ) (seen : D → Option (List ℕ)) 
   pub adds : AddsEntries actor old new
   pub halted : result ≡ Err Halted → HasFailed new
   pub fine : (result ≡ Err Halted → ⊥) → HasFailed new → HasFailed old
+
+-- where a call on a disk had failed before, the turn is halted, and no further entry is made
+abbrev pub Stops : {D : Type 0} → Type 0 → Held D → Held D → Type 0
+Stops halted old new = HasFailed old → halted × (new.entries ≡ old.entries)

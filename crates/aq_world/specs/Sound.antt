@@ -24,10 +24,9 @@ pub record IsSound (w : World) : Type 0 where
 abbrev pub start_of : World → World
 start_of w = opened w.home.opening w.away.opening w.scripts
 
--- legal steps led to the world, by these readings of the clock
+-- Legal steps led to the world, by these readings of the clock. From this follows that it is sound.
 pub record IsRunning (readings : List ℕ) (w : World) : Type 0 where
   pub begins : MayBegin w.home.opening w.away.opening w.scripts
   pub opening : w.opening ≡ (start_of w).opening
   pub legal : IsLegal (start_of w) readings w
   pub count : length readings ≡ w.readings
-  pub sound : IsSound w

@@ -11,7 +11,8 @@ pub enum TurnEnd {
     Idle,
     /// The session had ended before the turn; or, for the timer and the propagator, no session goes on.
     Ended,
-    /// A call on a disk failed, now or before, and the turn was broken off where a commit was to be made durable.
+    /// A call on a disk failed: in this turn, which was broken off there, or before it, and then at most a reading was taken. Where one has
+    /// failed no turn ends otherwise.
     Halted,
     /// Memory ran out, and the turn was broken off.
     Memory,

@@ -1,10 +1,12 @@
 // The turns of the sessions, the timer, the propagator and the closing turn.
-ghost use Rattle.std.specs.Prelude.{◌≡◌, ◌<◌, ◌^◌, ℕ, not, true, length, OnOk, OnErr, IfOk, IfErr, slice_get};
+ghost use Rattle.std.specs.Prelude.{◌≡◌, ◌<◌, ◌≤◌, ◌^◌, ℕ, Err, not, true, length, OnOk, OnErr, IfOk, IfErr, slice_get};
 ghost use Rattle.queue_rows.specs.Order.{IsFront};
 ghost use Rattle.queue_rows.specs.Turns.{closing_turn, drained, drained_once, is_still, propagator_turn, session_turn, timer_turn, DrainsIn};
 ghost use Rattle.run_laws.specs.ValidRun.{IsValidWorld};
 ghost use Rattle.queue_rows.specs.World.{read_clock};
-ghost use Rattle.aq_world.specs.Going.{GoesAs};
+ghost use Rattle.durable_state.specs.Going.{Goes};
+ghost use Rattle.durable_state.specs.Held.{HasFailed};
+ghost use Rattle.aq_world.specs.Going.{GoesAs, Stops};
 ghost use Rattle.aq_world.specs.Sound.{IsSound};
 ghost use Rattle.aq_world.specs.Turning.{IsActor, IsBrokenOff, IsCalling, IsDrainable, IsOwed, IsPartDrained, IsPartOfStep, IsUnclosed, IsUndone};
 ghost use Rattle.aq_world.specs.Turning.{background_end, is_owed, reads_clock, session_end, turn_end, turned};
@@ -174,10 +176,26 @@ pub fn reads_clock(state: &RunState, actor: u32) -> bool
     }
 }
 
+/// What is left of an actor's turn behind a failure of a disk: it takes a reading, if the turn takes one, and does nothing else.
+#[tactic(auto, using(crate::proofs::Fronts::turned_grows, crate::proofs::Halting::reading_broken, crate::proofs::Halting::reading_front, crate::proofs::Halting::resting_broken))]
+fn take_reading<D: Disk>(state: &mut DurableState<D>, actor: u32, reading: u64)
+    requires { state.old.world.readings < 2 ^ 63 }
+    ensures broken { IsBrokenOff actor reading state.old.world state.new.world }
+    ensures front { IsFront state.new.world.entries (turned reading actor state.old.world).entries }
+    ensures entries { state.new.entries ≡ state.old.entries }
+    ensures stays { HasFailed state.old → HasFailed state.new }
+    ensures disks { Goes D.seen D.is_image D.calls D.faults state.old state.new }
+{
+    if !reads_clock(state.run(), actor) {
+        return;
+    }
+    state.read_clock(reading);
+}
+
 /// The turn of an actor: of the session of that number, of the timer or of the propagator, with that reading, if it takes one. At want of
-/// memory it is broken off.
+/// memory, or where a disk fails, it is broken off.
 #[tactic(auto, using(crate::proofs::Running::is_propagator, crate::proofs::Running::propagator_ended, crate::proofs::Running::propagator_turned, crate::proofs::Running::session_ends, crate::proofs::Running::session_turned, crate::proofs::Running::timer_ended, crate::proofs::Running::timer_turned, crate::proofs::Turning::never_owed))]
-pub fn turn<D: Disk>(
+fn actors_turn<D: Disk>(
     state: &mut DurableState<D>,
     actor: u32,
     reading: u64,
@@ -200,6 +218,33 @@ pub fn turn<D: Disk>(
         TIMER => timer_turn(state, reading),
         _ => propagator_turn(state, reading),
     }
+}
+
+/// The turn of an actor, as `actors_turn` takes it, unless a call on a disk has failed before: then it is halted at its reading.
+pub fn turn<D: Disk>(
+    state: &mut DurableState<D>,
+    actor: u32,
+    reading: u64,
+) -> Result<TurnEnd, Broken>
+    requires sound { IsSound state.old.world }
+    requires actor { IsActor state.old.world actor }
+    requires readings { state.old.world.readings < 2 ^ 63 }
+    ensures ok { OnOk result (state.new.world ≡ turned reading actor state.old.world) }
+    ensures end { IfOk result (λ end. end ≡ turn_end reading actor state.old.world) }
+    ensures err { OnErr result
+        (IsBrokenOff actor reading state.old.world state.new.world) }
+    ensures front { OnErr result
+        (IsFront state.new.world.entries (turned reading actor state.old.world).entries) }
+    ensures telling { is_owed (slice_get state.old.world.sessions actor) ≡ true
+        → IfErr result (λ why. why ≡ Broken.Halted) }
+    ensures disks { GoesAs actor D.seen D.is_image D.calls D.faults result state.old state.new }
+    ensures stops { Stops (result ≡ Err Broken.Halted) state.old state.new }
+{
+    if state.has_failed() {
+        take_reading(state, actor, reading);
+        return Err(Broken::Halted);
+    }
+    actors_turn(state, actor, reading)
 }
 
 /// What is due is done, and then one step of propagation; whether there was anything to do is told. At want of memory there are the first
@@ -239,19 +284,24 @@ fn drain<D: Disk>(state: &mut DurableState<D>) -> Result<(), Broken>
     }
 }
 
-/// The turn that follows when no session goes on any more: with that reading it drains, and then makes every commit durable.
+/// The turn that follows when no session goes on any more: with that reading it drains, and then makes every commit durable. Where a call
+/// on a disk has failed before, it is halted at its reading.
 #[tactic(auto, using(crate::proofs::Turning::closed_part, crate::proofs::Turning::closed_so, crate::proofs::Turning::drainable_behind, crate::proofs::Turning::part_behind, crate::proofs::Turning::unclosed_at_flush, crate::proofs::Turning::unclosed_behind))]
 pub fn closing_turn<D: Disk>(state: &mut DurableState<D>, reading: u64) -> Result<TurnEnd, Broken>
     requires drainable { IsDrainable (read_clock reading state.old.world) }
-    requires readings { state.old.world.readings < 2 ^ 63 }
+    requires readings { state.old.world.readings ≤ 2 ^ 63 }
     ensures ok { OnOk result ((steps : ℕ) × DrainsIn (read_clock reading state.old.world) steps
         × (state.new.world ≡ closing_turn reading steps state.old.world)) }
     ensures end { IfOk result (λ end. end ≡ Done) }
     ensures err { OnErr result (IsPartDrained (read_clock reading state.old.world) state.new.world) }
     ensures front { OnErr result (IsUnclosed reading state.old.world state.new.world) }
     ensures disks { GoesAs 66 D.seen D.is_image D.calls D.faults result state.old state.new }
+    ensures stops { Stops (result ≡ Err Broken.Halted) state.old state.new }
 {
     state.read_clock(reading);
+    if state.has_failed() {
+        return Err(Broken::Halted);
+    }
     drain(state)?;
     state.flush(CLOSING)?;
     Ok(TurnEnd::Done)

@@ -11,6 +11,7 @@ ghost use Rattle.durable_state.specs.Going.{Goes};
 ghost use Rattle.durable_state.specs.Held.{HasFailed};
 ghost use Rattle.durable_state.specs.Survival.{Survives};
 ghost use Rattle.aq_world.specs.Clocked.{Grows, IsClocked, IsClosing, IsTurn};
+ghost use Rattle.aq_world.specs.Going.{Stops};
 ghost use Rattle.aq_world.specs.Mounting.{HasMountCause, HasSoundOpenings, KeepsRecovered, RecoversTo};
 ghost use Rattle.aq_world.specs.Turning.{IsActor, broken_end, is_owed};
 ghost use Rattle.aq_world.specs.declared.turn_end.TurnEnd.TheVariants.{Done, Halted, Memory};
@@ -119,7 +120,8 @@ impl<D: Disk, C: Clock> World<D, C> {
 
     /// The turn of an actor: of the session of that number, of the timer (64) or of the propagator (65). Each takes the clock and does
     /// what is due first. A session whose last call is not yet told is told it instead, and takes no reading; neither does an actor that
-    /// has ended. At want of memory, or where a disk fails, the turn is broken off.
+    /// has ended. At want of memory, or where a disk fails, the turn is broken off. Where a call on a disk has failed, now or before, it is
+    /// halted, whatever else stood in its way.
     pub fn turn(&mut self, actor: u32) -> TurnEnd
         requires actor { IsActor self.old.held.world actor }
         requires readings { self.old.held.world.readings < 2 ^ 63 }
@@ -130,10 +132,11 @@ impl<D: Disk, C: Clock> World<D, C> {
         ensures telling { is_owed (slice_get self.old.held.world.sessions actor) ≡ true
             → (result ≡ Done) ⊎ (result ≡ Halted) }
 
-        // The disks go on so that a crash leaves what it is to leave, and a failure is told where it stands in the way.
+        // The disks go on so that a crash leaves what it is to leave. A failure, now or before, is told, and behind it nothing is entered.
         ensures disks { Goes D.seen D.is_image D.calls D.faults self.old.held self.new.held }
         ensures halted { result ≡ Halted → HasFailed self.new.held }
-        ensures fine { (result ≡ Halted → ⊥) → HasFailed self.new.held → HasFailed self.old.held }
+        ensures fine { (result ≡ Halted → ⊥) → HasFailed self.new.held → ⊥ }
+        ensures stops { Stops (result ≡ Halted) self.old.held self.new.held }
     {
         let is_read = reads_clock(self.state.run(), actor);
         let reading = read_if(&mut self.clock, is_read);
@@ -141,17 +144,19 @@ impl<D: Disk, C: Clock> World<D, C> {
     }
 
     /// The turn that follows when no session goes on any more: with one reading, what is due is done and what can be sent is, until there
-    /// is nothing more, and then every commit is durable. At want of memory, or where a disk fails, it is broken off.
+    /// is nothing more, and then every commit is durable. At want of memory, or where a disk fails, it is broken off. Where a call on a disk
+    /// has failed, now or before, it is halted, as each turn is.
     pub fn closing(&mut self) -> TurnEnd
-        requires readings { self.old.held.world.readings < 2 ^ 63 }
+        requires readings { self.old.held.world.readings ≤ 2 ^ 63 }
         ensures known { (result ≡ Done) ⊎ ((result ≡ Memory) ⊎ (result ≡ Halted)) }
         ensures turn { IsClosing C.given C.plan result self.old self.new }
         ensures grows { Grows 66 self.old.held self.new.held }
 
-        // The disks go on so that a crash leaves what it is to leave, and a failure is told where it stands in the way.
+        // The disks go on so that a crash leaves what it is to leave. A failure, now or before, is told, and behind it nothing is entered.
         ensures disks { Goes D.seen D.is_image D.calls D.faults self.old.held self.new.held }
         ensures halted { result ≡ Halted → HasFailed self.new.held }
-        ensures fine { (result ≡ Halted → ⊥) → HasFailed self.new.held → HasFailed self.old.held }
+        ensures fine { (result ≡ Halted → ⊥) → HasFailed self.new.held → ⊥ }
+        ensures stops { Stops (result ≡ Halted) self.old.held self.new.held }
     {
         let reading = self.clock.now();
         end_of(closing_turn(&mut self.state, reading))

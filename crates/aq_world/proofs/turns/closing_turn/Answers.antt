@@ -1,7 +1,30 @@
+use Rattle.std.proofs.Common.{refl}
 use Rattle.durable_state.proofs.Growing.{adds_none}
+use Rattle.aq_world.proofs.Halting.{reading_part, reading_unclosed}
 use Rattle.aq_world.proofs.Turning.{at_err, closed_so, unclosed_at_flush}
 use Rattle.aq_world.proofs.Goings.{as_failed, as_on, as_ok, as_passed, quiet_by, quiet_ok, quiet_on}
 use Rattle.aq_world.proofs.turns.closing_turn.Goals as goal
+
+pub returns-then-has_failed-clause-err : goal.returns-then-has_failed-clause-err
+returns-then-has_failed-clause-err g c = reading_part c.args.reading c.args.state.now.world c.read_clock.new.self.world c.read_clock.ensures.world
+
+pub returns-then-has_failed-clause-front : goal.returns-then-has_failed-clause-front
+returns-then-has_failed-clause-front g c = reading_unclosed c.args.reading c.args.state.now.world c.read_clock.new.self.world c.read_clock.ensures.world
+
+pub returns-then-has_failed-clause-disks : goal.returns-then-has_failed-clause-disks
+returns-then-has_failed-clause-disks g c = as_failed _ _ _ refl c.read_clock.ensures.disks (adds_none _ _ c.read_clock.ensures.entries) (c.has_failed.ensures.failed c.if-has_failed.true)
+
+pub returns-then-has_failed-clause-stops : goal.returns-then-has_failed-clause-stops
+returns-then-has_failed-clause-stops g c failed = (refl, c.read_clock.ensures.entries)
+
+pub returns-in_err-drain-clause-stops : goal.returns-in_err-drain-clause-stops
+returns-in_err-drain-clause-stops g c failed = absurd (c.has_failed.ensures.fine c.if-has_failed.false (c.read_clock.ensures.stays failed))
+
+pub returns-in_err-flush-clause-stops : goal.returns-in_err-flush-clause-stops
+returns-in_err-flush-clause-stops g c failed = absurd (c.has_failed.ensures.fine c.if-has_failed.false (c.read_clock.ensures.stays failed))
+
+pub returns-clause-stops : goal.returns-clause-stops
+returns-clause-stops g c failed = absurd (c.has_failed.ensures.fine c.if-has_failed.false (c.read_clock.ensures.stays failed))
 
 pub returns-clause-ok : goal.returns-clause-ok
 returns-clause-ok g c = closed_so c.args.reading c.args.state.now.world c.read_clock.new.self.world c.drain.new.state.world c.flush.new.self.world c.read_clock.ensures.world c.in_ok-drain.ensures.ok c.in_ok-flush.ensures.ok

@@ -1,8 +1,9 @@
-use Rattle.std.proofs.Common.{◌<◌, ◌^◌, sym, subst}
+use Rattle.std.proofs.Common.{◌≡◌, ◌≤◌, ◌^◌, sym, subst}
 use Rattle.durable_state.specs.Going.{Goes}
-use Rattle.durable_state.specs.Held.{HasFailed}
 use Rattle.aq_world.specs.Clocked.{Grows, IsClosing}
-use Rattle.aq_world.proofs.Running.{drainable, closing_leaves, closing_of_run, part_of_run, closed_known, closed_world, closed_broken, turn_halted, turn_fine, if_closed, takes_reading, told_count}
+use Rattle.aq_world.specs.Going.{Stops}
+use Rattle.aq_world.proofs.Running.{drainable, closing_leaves, closing_of_run, part_of_run, closed_known, closed_world, closed_broken, turn_halted, turn_fine, turn_stops, if_closed, takes_reading, told_count}
+use Rattle.aq_world.specs.declared.turn_end.TurnEnd.TheVariants.{Halted}
 use Rattle.aq_world.proofs.world.World.closing.Goals as goal
 
 pub closing_turn-requires-clause-drainable : goal.closing_turn-requires-clause-drainable
@@ -24,7 +25,7 @@ returns-clause-turn g c =
     subst (λ v. IsClosing g.C.Clock.given g.C.Clock.plan c.end_of.result v (record { held = c.closing_turn.new.state; clock = c.now-reading.new.self })) c.self.view_is
     (record {
       reading = reading;
-      reads = takes_reading g.C.Clock.given g.C.Clock.plan g.met.C.Clock.as_planned w.readings reading c.self.inside.clock c.now-reading.new.self (subst (λ v. v.held.world.readings < 2 ^ 63) (sym c.self.view_is) c.requires.readings) (told_count i.readings w (g.C.Clock.given c.self.inside.clock) i.running i.told) c.now-reading.ensures.reading c.now-reading.ensures.tells c.now-reading.ensures.planned;
+      reads = takes_reading g.C.Clock.given g.C.Clock.plan g.met.C.Clock.as_planned w.readings reading c.self.inside.clock c.now-reading.new.self (subst (λ v. v.held.world.readings ≤ 2 ^ 63) (sym c.self.view_is) c.requires.readings) (told_count i.readings w (g.C.Clock.given c.self.inside.clock) i.running i.told) c.now-reading.ensures.reading c.now-reading.ensures.tells c.now-reading.ensures.planned;
       world = λ done. closed_world c.closing_turn.result c.end_of.result c.end_of.ensures c.closing_turn.ensures.ok done;
       front = λ broken. closed_broken c.closing_turn.result c.end_of.result c.end_of.ensures c.closing_turn.ensures.end c.closing_turn.ensures.front broken;
       run = λ broken. part_of_run reading w c.closing_turn.new.state.world (closed_broken c.closing_turn.result c.end_of.result c.end_of.ensures c.closing_turn.ensures.end c.closing_turn.ensures.err broken);
@@ -38,8 +39,12 @@ returns-clause-halted g c = λ halted.
     turn_halted c.closing_turn.result c.end_of.result c.self.inside.state c.closing_turn.new.state c.end_of.ensures (if_closed c.closing_turn.result c.closing_turn.ensures.end) c.closing_turn.ensures.disks halted
 
 pub returns-clause-fine : goal.returns-clause-fine
-returns-clause-fine g c = λ other failed.
-    subst (λ v. HasFailed v.held) c.self.view_is (turn_fine c.closing_turn.result c.end_of.result c.self.inside.state c.closing_turn.new.state c.end_of.ensures c.closing_turn.ensures.disks other failed)
+returns-clause-fine g c = λ other failed. turn_fine c.closing_turn.result c.end_of.result c.self.inside.state c.closing_turn.new.state c.end_of.ensures c.closing_turn.ensures.disks c.closing_turn.ensures.stops other failed
+
+pub returns-clause-stops : goal.returns-clause-stops
+returns-clause-stops g c =
+    subst (λ v. Stops (c.end_of.result ≡ Halted) v.held c.closing_turn.new.state) c.self.view_is
+    (turn_stops c.closing_turn.result c.end_of.result c.self.inside.state c.closing_turn.new.state c.end_of.ensures c.closing_turn.ensures.stops)
 
 pub returns-clause-grows : goal.returns-clause-grows
 returns-clause-grows g c =

@@ -1,15 +1,16 @@
-use Rattle.std.proofs.Common.{◌≡◌, ◌<◌, ◌^◌, true, sym, ap, subst, ◌∙◌}
+use Rattle.std.proofs.Common.{◌≡◌, ◌<◌, ◌^◌, arith, true, sym, ap, subst, ◌∙◌}
 use Rattle.std.specs.Prelude.{slice_get}
 use Rattle.durable_state.specs.Going.{Goes}
-use Rattle.durable_state.specs.Held.{HasFailed}
 use Rattle.aq_world.specs.Clocked.{Grows, IsTurn}
+use Rattle.aq_world.specs.Going.{Stops}
 use Rattle.aq_world.specs.Turning.{IsActor, is_owed, reads_clock, turn_end}
 use Rattle.aq_world.proofs.OfRun.{turn_of_run}
-use Rattle.aq_world.proofs.Running.{turn_leaves, turn_told, turned_world, turned_end, turned_broken, turn_halted, turn_fine, if_turned, reads_if, takes_reading, told_count}
+use Rattle.aq_world.proofs.Running.{running_few, running_sound, turn_leaves, turn_told, turned_world, turned_end, turned_broken, turn_halted, turn_fine, turn_stops, if_turned, reads_if, takes_reading, told_count}
+use Rattle.aq_world.specs.declared.turn_end.TurnEnd.TheVariants.{Halted}
 use Rattle.aq_world.proofs.world.World.turn.Goals as goal
 
 pub turn-requires-clause-sound : goal.turn-requires-clause-sound
-turn-requires-clause-sound g c = c.self.invariant.running.sound
+turn-requires-clause-sound g c = running_sound c.self.invariant.readings c.self.inside.state.world c.self.invariant.running
 
 pub invariant_of-self : goal.invariant_of-self
 invariant_of-self g c =
@@ -29,7 +30,7 @@ returns-clause-turn g c =
       reading = reading;
       reads = reads_if g.C.Clock.given g.C.Clock.plan (reads_clock c.args.actor w) c.reads_clock-is_read.result w.readings reading c.self.inside.clock c.read_if-reading.new.clock (c.reads_clock-is_read.ensures ∙ ap (reads_clock c.args.actor) c.run.ensures)
           (λ yes. takes_reading g.C.Clock.given g.C.Clock.plan g.met.C.Clock.as_planned w.readings reading c.self.inside.clock c.read_if-reading.new.clock
-          (subst (λ v. v.held.world.readings < 2 ^ 63) (sym c.self.view_is) c.requires.readings) (told_count i.readings w (g.C.Clock.given c.self.inside.clock) i.running i.told)
+          (let few = subst (λ v. v.held.world.readings < 2 ^ 63) (sym c.self.view_is) c.requires.readings in omega (arith, few)) (told_count i.readings w (g.C.Clock.given c.self.inside.clock) i.running i.told)
           (c.read_if-reading.ensures.read yes) (c.read_if-reading.ensures.tells yes) (c.read_if-reading.ensures.planned yes))
           c.read_if-reading.ensures.unread;
       world = λ whole. turned_world c.turn.result c.end_of.result c.end_of.ensures c.turn.ensures.ok whole;
@@ -47,7 +48,10 @@ returns-clause-halted g c = λ halted.
     turn_halted c.turn.result c.end_of.result c.self.inside.state c.turn.new.state c.end_of.ensures (if_turned c.turn.result c.read_if-reading.result c.args.actor c.self.inside.state.world c.turn.ensures.end) c.turn.ensures.disks halted
 
 pub returns-clause-fine : goal.returns-clause-fine
-returns-clause-fine g c = λ other failed. subst (λ v. HasFailed v.held) c.self.view_is (turn_fine c.turn.result c.end_of.result c.self.inside.state c.turn.new.state c.end_of.ensures c.turn.ensures.disks other failed)
+returns-clause-fine g c = λ other failed. turn_fine c.turn.result c.end_of.result c.self.inside.state c.turn.new.state c.end_of.ensures c.turn.ensures.disks c.turn.ensures.stops other failed
+
+pub returns-clause-stops : goal.returns-clause-stops
+returns-clause-stops g c = subst (λ v. Stops (c.end_of.result ≡ Halted) v.held c.turn.new.state) c.self.view_is (turn_stops c.turn.result c.end_of.result c.self.inside.state c.turn.new.state c.end_of.ensures c.turn.ensures.stops)
 
 pub returns-clause-grows : goal.returns-clause-grows
 returns-clause-grows g c =
@@ -57,4 +61,4 @@ returns-clause-grows g c =
 pub returns-clause-telling : goal.returns-clause-telling
 returns-clause-telling g c owed =
     let here : is_owed (slice_get c.self.inside.state.world.sessions c.args.actor) ≡ true = subst (λ v. is_owed (slice_get v.held.world.sessions c.args.actor) ≡ true) (sym c.self.view_is) owed in
-    turn_told c.turn.result c.end_of.result c.read_if-reading.result c.args.actor c.self.inside.state.world c.end_of.ensures c.turn.ensures.end (c.turn.ensures.telling here) c.self.invariant.running.sound.few here
+    turn_told c.turn.result c.end_of.result c.read_if-reading.result c.args.actor c.self.inside.state.world c.end_of.ensures c.turn.ensures.end (c.turn.ensures.telling here) (running_few c.self.invariant.readings c.self.inside.state.world c.self.invariant.running) here
