@@ -1,0 +1,3 @@
+pub mod AtRoot
+pub mod Edited
+pub mod Halving
