@@ -1,5 +1,5 @@
 -- Each side of a fork has fewer rows than both together.
-use Rattle.std.specs.Prelude.{◌≡◌, ◌≤◌, ℕ, ◌++◌, length, Option, Some, None, IsSome, refl}
+use Rattle.std.specs.Prelude.{◌≤◌, ℕ, ◌++◌, length}
 use Rattle.std.specs.Option.{option_to_list}
 use Rattle.std.proofs.Common.{arith, length-append}
 use Rattle.row_tree.specs.RowsFall.{one_row}
