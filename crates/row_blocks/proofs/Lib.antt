@@ -1,3 +1,0 @@
-pub mod AtRoot
-pub mod Edited
-pub mod Halving
