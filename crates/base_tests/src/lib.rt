@@ -10,6 +10,8 @@ mod disks;
 #[cfg(test)]
 mod names;
 #[cfg(test)]
+mod pairs;
+#[cfg(test)]
 mod places;
 #[cfg(test)]
 mod records;

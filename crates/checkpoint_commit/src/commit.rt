@@ -2,7 +2,7 @@
 ghost use Rattle.std.specs.Prelude.{◌≡◌, IfOk};
 ghost use Rattle.checkpoint_commit.specs.Checkpoint.{checkpoint_of};
 
-use crate::rows::{put_messages, put_named_rows, put_rows};
+use crate::rows::{put_messages, put_named_rows, put_paired_rows, put_rows};
 use payload_records::List;
 use queue_rows::{Change, Commit, Tables};
 use std::alloc::{AllocError, Global};
@@ -34,7 +34,7 @@ pub fn checkpoint_commit(alloc: Global, tables: &Tables) -> Result<Commit, Alloc
     put_named_rows(&mut changes, &tables.subs)?;
     put_rows(&mut changes, &tables.schedules)?;
     put_messages(&mut changes, &tables.messages)?;
-    put_rows(&mut changes, &tables.seen)?;
+    put_paired_rows(&mut changes, &tables.seen)?;
     Ok(Commit {
         moment: tables.latest,
         changes: List::from_vec(changes),

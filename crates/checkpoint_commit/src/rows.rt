@@ -4,6 +4,7 @@ ghost use Rattle.queue_rows.specs.declared.change.Change.{Change};
 ghost use Rattle.queue_rows.specs.declared.change.Change.TheVariants.{PutTable, PutQueue, PutSub, PutSchedule, Enqueued, Seen};
 
 use named_list::{Named, NamedList};
+use pair_list::{PairList, Paired};
 use payload_records::{Boxed, Copied, List};
 use queue_rows::{Change, MsgRow, QueueRow, ScheduleRow, SeenRow, SubRow, TableRow};
 use row_tree::Tree;
@@ -74,6 +75,20 @@ pub(crate) fn put_rows<R: Row>(changes: &mut Vec<Change>, rows: &List<R>) -> Res
 pub(crate) fn put_named_rows<R: Row + Named>(
     changes: &mut Vec<Change>,
     rows: &NamedList<R>,
+) -> Result<(), AllocError>
+    ensures { OnOk result (changes.new.items ≡ changes.old.items ++ map R.put rows.now) }
+{
+    let alloc = *changes.allocator();
+    for row in rows {
+        changes.push(row.copied()?.into_change(alloc)?)?;
+    }
+    Ok(())
+}
+
+/// Puts at the end of changes what puts each of these rows, which have pairs, in order.
+pub(crate) fn put_paired_rows<R: Row + Paired>(
+    changes: &mut Vec<Change>,
+    rows: &PairList<R>,
 ) -> Result<(), AllocError>
     ensures { OnOk result (changes.new.items ≡ changes.old.items ++ map R.put rows.now) }
 {

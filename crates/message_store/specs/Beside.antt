@@ -13,6 +13,6 @@ room_beside t b = record {
   subs = min b.subs (MAX - length t.subs);
   schedules = b.schedules - length t.schedules;
   messages = b.index.room;
-  seen = b.seen - length t.seen;
+  seen = min b.seen (MAX - length t.seen);
   slots = b.slots.items;
 }

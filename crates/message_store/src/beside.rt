@@ -4,8 +4,8 @@ ghost use Rattle.message_store.specs.Beside.{room_beside};
 ghost use Rattle.message_store.specs.Room.{HasRoom};
 
 use crate::message_index::MessageIndex;
-use crate::open_named::NamedRoom;
 use crate::room::{RowKind, puts_of};
+use crate::rooms::Rooms;
 use crate::row_room::RowRoom;
 use payload_records::List;
 use queue_rows::{Change, QueueRow, ScheduleRow, SeenRow, SlotRow, SubRow, TableRow, Tables};
@@ -18,15 +18,15 @@ pub(crate) struct Beside {
     /// The index, with memory for more messages.
     pub(crate) index: MessageIndex,
     /// Memory for queue tables.
-    pub(crate) tables: NamedRoom<TableRow>,
+    pub(crate) tables: Rooms<named_list::Room<TableRow>>,
     /// Memory for queues.
-    pub(crate) queues: NamedRoom<QueueRow>,
+    pub(crate) queues: Rooms<named_list::Room<QueueRow>>,
     /// Memory for subscribers.
-    pub(crate) subs: NamedRoom<SubRow>,
+    pub(crate) subs: Rooms<named_list::Room<SubRow>>,
     /// Memory for schedules.
     pub(crate) schedules: RowRoom<ScheduleRow>,
     /// Memory for what arrives from the other database.
-    pub(crate) seen: RowRoom<SeenRow>,
+    pub(crate) seen: Rooms<pair_list::Room<SeenRow>>,
     /// Memory for the slots of the messages that are moved, in the order of moves.
     pub(crate) slots: VecDeque<RowRoom<SlotRow>>,
 }
@@ -38,11 +38,11 @@ impl Beside {
     {
         Beside {
             index,
-            tables: NamedRoom::none(alloc),
-            queues: NamedRoom::none(alloc),
-            subs: NamedRoom::none(alloc),
+            tables: Rooms::none(alloc),
+            queues: Rooms::none(alloc),
+            subs: Rooms::none(alloc),
             schedules: RowRoom::none(alloc),
-            seen: RowRoom::none(alloc),
+            seen: Rooms::none(alloc),
             slots: VecDeque::new(alloc),
         }
     }
@@ -67,7 +67,7 @@ impl Beside {
         self.schedules
             .reserve(&tables.schedules, puts_of(RowKind::Schedule, changes))?;
         self.seen
-            .reserve(&tables.seen, puts_of(RowKind::Seen, changes))?;
+            .reserve(tables.seen.len(), puts_of(RowKind::Seen, changes))?;
         self.index.reserve(puts_of(RowKind::Message, changes))
     }
 }

@@ -10,6 +10,7 @@ use crate::beside::Beside;
 use crate::caches::Caches;
 use crate::open_messages::OpenMessages;
 use crate::open_named::OpenNamed;
+use crate::open_pairs::OpenPairs;
 use crate::open_rows::OpenRows;
 use crate::row_room::RowRoom;
 use queue_rows::{QueueRow, ScheduleRow, SeenRow, SlotRow, SubRow, TableRow, Tables};
@@ -30,7 +31,7 @@ pub(crate) struct OpenTables {
     /// The messages, with their index.
     pub(crate) messages: OpenMessages,
     /// What has arrived from the other database.
-    pub(crate) seen: OpenRows<SeenRow>,
+    pub(crate) seen: OpenPairs<SeenRow>,
     /// Memory for the slots of the messages that are moved, in the order of moves.
     pub(crate) slots: VecDeque<RowRoom<SlotRow>>,
     /// One above the greatest id that was committed.
@@ -56,7 +57,7 @@ impl OpenTables {
             subs: OpenNamed::of(tables.subs, beside.subs),
             schedules: beside.schedules.open(tables.schedules),
             messages: OpenMessages::of(tables.messages, beside.index, caches),
-            seen: beside.seen.open(tables.seen),
+            seen: OpenPairs::of(tables.seen, beside.seen),
             slots: beside.slots,
             next: tables.next,
             transaction: tables.transaction,

@@ -1,10 +1,10 @@
 // Rows that are found by their names, while a commit is made.
-ghost use Rattle.std.specs.Prelude.{◌≡◌, ◌+◌, ◌-◌, ◌<◌, ◌≤◌, ◌∷◌, ◌++◌, [], IfSome, OnErr, OnOk, length, min, remove, slice_get, slice_set};
+ghost use Rattle.std.specs.Prelude.{◌≡◌, ◌+◌, ◌-◌, ◌<◌, ◌∷◌, ◌++◌, [], IfSome, length, min, remove, slice_get, slice_set};
 ghost use Rattle.row_tree.specs.Edits.{edit_at};
 
+use crate::rooms::Rooms;
 use named_list::{Named, NamedList, Room};
 use row_tree::Edit;
-use std::alloc::{AllocError, Global};
 use std::marker::Model;
 
 /// A row in the place of another one.
@@ -18,46 +18,6 @@ impl<T: Drop> Edit<T> for Replacement<T> {
 
     fn edit(self, _row: T) -> T {
         self.row
-    }
-}
-
-/// Memory for rows that come. Contracts see for how many.
-#[derive(Drop)]
-pub(crate) struct NamedRoom<T> {
-    rooms: Vec<Room<T>>,
-}
-
-impl<T> Model for NamedRoom<T> {
-    ghost use Rattle.std.specs.Prelude.{ℕ, vec_len};
-
-    ghost Value = { ℕ };
-
-    ghost view = { λ r. vec_len r.rooms };
-}
-
-impl<T: Drop> NamedRoom<T> {
-    /// Memory for none. It takes no memory.
-    pub(crate) fn none(alloc: Global) -> NamedRoom<T>
-        ensures { result ≡ 0 }
-    {
-        NamedRoom {
-            rooms: Vec::new(alloc),
-        }
-    }
-
-    /// Takes memory for so many rows beside those of a list.
-    pub(crate) fn reserve(&mut self, rows: usize, more: usize) -> Result<(), AllocError>
-        ensures { OnOk result (more ≤ min self.new (usize.MAX - rows)) }
-    {
-        if usize::MAX - rows < more {
-            return Err(AllocError);
-        }
-        let alloc = *self.rooms.allocator();
-        let missing = more.saturating_sub(self.rooms.len());
-        for _ in 0..missing {
-            self.rooms.push(Room::new(alloc)?)?;
-        }
-        Ok(())
     }
 }
 
@@ -83,11 +43,11 @@ impl<T: Named> Model for OpenNamed<T> {
 
 impl<T: Named + Drop> OpenNamed<T> {
     /// The rows of a list, with memory for more. It takes no memory.
-    pub(crate) fn of(rows: NamedList<T>, room: NamedRoom<T>) -> OpenNamed<T>
+    pub(crate) fn of(rows: NamedList<T>, room: Rooms<Room<T>>) -> OpenNamed<T>
         ensures { result ≡ record { items = rows; room = min room (usize.MAX - length rows) } }
     {
         let count = rows.len();
-        let rooms = room.rooms;
+        let rooms = room.into_vec();
         let room = rooms.len().min(usize::MAX - count);
         OpenNamed { rows, rooms, room }
     }

@@ -40,7 +40,7 @@ fn copied(
     ensures { IfOk result (λ a.
         arriving_by there.now at.now (dispatch_by sent.entry) stamp.id stamp.moment None ≡ meant a) }
 {
-    let alloc = there.seen.allocator();
+    let alloc = there.schedules.allocator();
     Ok(Arriving {
         outcome: Arrival::Copied(stamp.id),
         origin: List::new(alloc),
@@ -84,7 +84,7 @@ fn arrive_at(
     requires moment { moment ≤ 2 ^ 62 }
     ensures { IfOk result (λ a. arriving there.now at.now (dispatch_by sent.entry) next moment ≡ meant a) }
 {
-    let alloc = there.seen.allocator();
+    let alloc = there.schedules.allocator();
     if has_seen(there, at) {
         return Ok(Arriving {
             outcome: Arrival::Seen,

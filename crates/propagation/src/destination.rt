@@ -2,26 +2,20 @@
 ghost use Rattle.std.specs.Prelude.{◌≡◌, ◌<◌, ◌^◌, Some, None, IfOk, IfErr, zip};
 ghost use Rattle.std.specs.List.{list_all};
 ghost use Rattle.queue_rows.specs.Rows.{table_of};
-ghost use Rattle.queue_rows.specs.Propagating.{is_same_field, is_same_type, cause_at_table, cause_of, is_pair, has_seen};
+ghost use Rattle.queue_rows.specs.Propagating.{is_same_field, is_same_type, cause_at_table, cause_of, has_seen};
 ghost use Rattle.propagation.specs.Sent.{parcel_of};
 
 use crate::sent::Sent;
 use aq_base::NEXT_LIMIT;
 use exception_queues::{find_queue, find_table};
 use payload_records::{Field, List, RecordType};
-use queue_rows::{Cause, SeenRow, SlotRef, TableRow, Tables};
+use queue_rows::{Cause, SlotRef, TableRow, Tables};
 
-fn is_pair(at: &SlotRef, row: &SeenRow) -> bool
-    ensures { result ≡ is_pair at.now.id at.now.slot row.now }
-{
-    row.id == at.id && row.slot == u64::from(at.slot)
-}
-
-/// Whether the pair of the slot stands in the seen list. It goes over the list.
+/// Whether the pair of the slot stands in the seen list. It does not go over the list.
 pub(crate) fn has_seen(there: &Tables, at: &SlotRef) -> bool
     ensures { result ≡ has_seen there.now at.now }
 {
-    there.seen.iter().any(|row| is_pair(at, row))
+    there.seen.has(at.id, u64::from(at.slot))
 }
 
 fn is_same_field(left: &Field, right: &Field) -> bool

@@ -58,7 +58,7 @@ fn add_there(tables: &mut Tables, alloc: Global, there: There) -> Result<(), Fai
     tables.tables.append(alloc, table)?;
     let queue = rows::queue(alloc, there.name, "t", there.queue)?;
     tables.queues.append(alloc, queue)?;
-    tables.seen.push(seen(there.seen))?;
+    tables.seen.append(alloc, seen(there.seen))?;
     tables.transaction = 2;
     Ok(())
 }

@@ -4,6 +4,7 @@ ghost use Rattle.queue_rows.specs.Rows.{is_sub};
 ghost use Rattle.queue_rows.specs.Sought.{is_of_queue};
 
 use named_list::{Named, Sought};
+use pair_list::Paired;
 use payload_records::{Copied, List, Name, RecordType};
 use place_keys::{Place, SortList};
 use rule_conditions::{Cond, Facts};
@@ -258,6 +259,15 @@ impl Named for QueueRow {
 
     fn name(&self) -> &Name {
         &self.name
+    }
+}
+
+/// What has arrived is found by the number and the slot that it has at the other database.
+impl Paired for SeenRow {
+    ghost pair_of = { λ row. (row.id, row.slot) };
+
+    fn pair(&self) -> (u64, u64) {
+        (self.id, self.slot)
     }
 }
 

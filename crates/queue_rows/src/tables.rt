@@ -4,6 +4,7 @@ ghost use Rattle.queue_rows.specs.Tables.{empty_tables};
 
 use crate::{MsgRow, QueueRow, ScheduleRow, SeenRow, SubRow, TableRow};
 use named_list::{NamedList, Tree};
+use pair_list::PairList;
 use payload_records::List;
 use std::alloc::Global;
 
@@ -20,8 +21,8 @@ pub struct Tables {
     pub schedules: List<ScheduleRow>,
     /// The messages, in the order of their commits.
     pub messages: Tree<MsgRow>,
-    /// What has arrived from the other database.
-    pub seen: List<SeenRow>,
+    /// What has arrived from the other database, found by its numbers there.
+    pub seen: PairList<SeenRow>,
     /// One above the greatest id that was committed.
     pub next: u64,
     /// One above the greatest group that was committed.
@@ -41,7 +42,7 @@ impl Tables {
             subs: NamedList::new(),
             schedules: List::new(alloc),
             messages: Tree::new(),
-            seen: List::new(alloc),
+            seen: PairList::new(),
             next: 1,
             transaction: 1,
             latest: 0,

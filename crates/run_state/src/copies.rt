@@ -26,7 +26,7 @@ pub fn copied_tables(alloc: Global, tables: &Tables) -> Result<Tables, AllocErro
         subs: tables.subs.copied(alloc)?,
         schedules: tables.schedules.copied()?,
         messages: copied_messages(alloc, &tables.messages)?,
-        seen: tables.seen.copied()?,
+        seen: tables.seen.copied(alloc)?,
         next: tables.next,
         transaction: tables.transaction,
         latest: tables.latest,

@@ -19,7 +19,7 @@ use aq_base::DbId;
 use payload_records::{Boxed, Copied, List, Name};
 use propagation::Arriving;
 use queue_catalog::exception_name;
-use queue_rows::{Arrival, Change, Entry, Reply, SeenRow, SlotRef, Step, Tables};
+use queue_rows::{Arrival, Change, Entry, Reply, SlotRef, Step, Tables};
 use std::alloc::AllocError;
 
 fn ids_taken(reply: &Reply) -> u64
@@ -83,16 +83,10 @@ fn gone_queues(changes: &List<Change>) -> Result<List<Name>, AllocError>
     Ok(names)
 }
 
-fn is_pair(seen: &SeenRow, at: &SlotRef) -> bool
-    ensures { result ≡ is_pair at.now.id at.now.slot seen.now }
-{
-    seen.id == at.id && seen.slot == u64::from(at.slot)
-}
-
 fn find_pair(there: &Tables, at: &SlotRef) -> Option<usize>
     ensures { result ≡ position (is_pair at.now.id at.now.slot) there.now.seen }
 {
-    there.seen.iter().position(|pair| is_pair(pair, at))
+    there.seen.position(at.id, u64::from(at.slot))
 }
 
 /// The place of the slot's pair, counted from 0, among those that a database has seen; the next one where it is not there.

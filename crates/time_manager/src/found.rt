@@ -108,7 +108,7 @@ fn push_message<T: MessageTables>(
     ensures settled { let w = watch_of watching.now in
         OnOk result (found.new.settled.items ≡ found.old.settled.items ++ own_settling w message.now) }
 {
-    let mut own = List::new(watching.tables.seen.allocator());
+    let mut own = List::new(watching.tables.schedules.allocator());
     push_slots(&mut own, watching, message)?;
     if is_spent(watching, message) {
         push_spent(found, message, own)
@@ -152,7 +152,7 @@ fn found_at<T: MessageTables>(
     ensures settled { let w = watch_of watching.now in IfOk result (λ found. found.settled.items
         ≡ flat_map (λ rank. given (own_settling w) (slice_get w.tables.messages rank)) ranks.now) }
 {
-    let alloc = watching.tables.seen.allocator();
+    let alloc = watching.tables.schedules.allocator();
     let mut found = Found::new(alloc, ranks.len())?;
     for rank in ranks {
         push_message_at(&mut found, store, watching, *rank)?;
@@ -175,7 +175,7 @@ pub(crate) fn changes_at<T: MessageTables>(
 {
     // (mostly nothing is due, in any turn)
     if ranks.is_empty() {
-        return Ok(List::new(watching.tables.seen.allocator()));
+        return Ok(List::new(watching.tables.schedules.allocator()));
     }
     found_at(store, watching, ranks)?.joined()
 }

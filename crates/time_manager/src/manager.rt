@@ -24,7 +24,7 @@ fn watched<T: DueTables>(store: &T, watching: &Watching<'_>) -> Result<List<Chan
     requires slots { All HasFewSlots (T.tables store.now).messages }
     ensures { IfOk result (λ changes. changes ≡ watched (watch_of watching.now)) }
 {
-    let alloc = watching.tables.seen.allocator();
+    let alloc = watching.tables.schedules.allocator();
     let ranks = named_ranks(store, watching, alloc)?;
     changes_at(store, watching, &ranks)
 }

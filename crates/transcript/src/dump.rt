@@ -10,6 +10,7 @@ use crate::messages::put_message;
 use crate::rows::{put_database, put_queue, put_schedule, put_seen, put_subscriber, put_table};
 use aq_base::DbId;
 use named_list::NamedList;
+use pair_list::PairList;
 use payload_records::List;
 use queue_rows::{QueueRow, ScheduleRow, SeenRow, SubRow, TableRow, Tables};
 use std::alloc::{AllocError, Global};
@@ -60,7 +61,7 @@ fn put_messages(out: &mut String, db: DbId, tables: &Tables) -> Result<(), Alloc
     Ok(())
 }
 
-fn put_arrivals(out: &mut String, db: DbId, rows: &List<SeenRow>) -> Result<(), AllocError>
+fn put_arrivals(out: &mut String, db: DbId, rows: &PairList<SeenRow>) -> Result<(), AllocError>
     ensures { OnOk result (Writes out.old out.new (flat_map (seen_line db) rows.now)) }
 {
     for row in rows {

@@ -1,4 +1,5 @@
-pub mod Meeting
 pub mod Keys
 pub mod Lookups
+pub mod Meeting
+pub mod Pairs
 pub mod Recipients

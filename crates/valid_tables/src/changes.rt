@@ -47,10 +47,7 @@ fn is_unmoved_at<T: MessageTables>(tables: &T, id: u64) -> bool
 fn is_seen(tables: &Tables, row: &SeenRow) -> bool
     ensures { result ≡ list_any (is_same_seen row.now) tables.now.seen }
 {
-    tables
-        .seen
-        .iter()
-        .any(|seen| row.id == seen.id && row.slot == seen.slot)
+    tables.seen.has(row.id, row.slot)
 }
 
 /// Whether what the change names is there as it comes. A row that is put names none; a message that goes in, and a seen

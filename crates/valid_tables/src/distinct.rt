@@ -6,6 +6,7 @@ ghost use Rattle.queue_rows.specs.Valid.{is_same_message, is_same_seen, has_dist
 ghost use Rattle.valid_tables.specs.Met.{has_name, has_pair, MeetsName, MeetsPair};
 
 use named_list::NamedList;
+use pair_list::PairList;
 use payload_records::{Copied, List, Name};
 use queue_rows::{MsgRow, QueueRow, ScheduleRow, SeenRow, SubRow, TableRow, Tables};
 use row_tree::Tree;
@@ -91,7 +92,7 @@ fn are_distinct_messages(alloc: Global, messages: &Tree<MsgRow>) -> Result<bool,
     Ok(true)
 }
 
-fn are_distinct_seen(alloc: Global, seen: &List<SeenRow>) -> Result<bool, AllocError>
+fn are_distinct_seen(alloc: Global, seen: &PairList<SeenRow>) -> Result<bool, AllocError>
     ensures { IfOk result (λ distinct. distinct ≡ are_distinct is_same_seen seen.now) }
 {
     let mut met = BTreeSet::new(alloc);

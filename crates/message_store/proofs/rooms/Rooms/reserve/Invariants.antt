@@ -1,5 +1,5 @@
 use Rattle.std.proofs.Common.{◌≡◌, ◌+◌, ◌≤◌, ◌-◌, vec_len}
-use Rattle.message_store.proofs.open_named.NamedRoom.reserve.Given as goal
+use Rattle.message_store.proofs.rooms.Rooms.reserve.Given as goal
 
 abbrev pub invariant-loop : goal.invariant-loop
 invariant-loop g l = (vec_len l.self-inside.rooms ≡ vec_len l.initial.self-inside.rooms + l.counter) × (l.counter ≤ l.missing) × (l.missing ≡ l.more - vec_len l.initial.self-inside.rooms)
