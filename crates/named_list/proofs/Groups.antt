@@ -12,7 +12,7 @@ use Rattle.named_list.specs.Order.{group_cmp, group_cmp_total, key}
 use Rattle.named_list.specs.Stamps.{is_of, stamps_in}
 use Rattle.named_list.specs.declared.entry.Stamp.{Stamp}
 use Rattle.named_list.specs.declared.group.Group.{Group}
-use Rattle.named_list.proofs.Finding.{find_put_other, find_put_here, find_filter_other, none_kept, find_none}
+use Rattle.row_tree.proofs.Finding.{find_put_other, find_put_here, find_filter_other, none_kept, find_none}
 
 pub is_Equal : (o : Ordering) → is_eq o ≡ true → o ≡ Equal
 is_Equal Less e = cc e

@@ -1,4 +1,3 @@
-pub mod Finding
 pub mod Groups
 pub mod Places
 pub mod Stamps

@@ -9,7 +9,7 @@ use Rattle.std.proofs.lemmas.List.{map-append, take-map, drop-map}
 use Rattle.std.proofs.lemmas.Option.{none-some}
 use Rattle.row_tree.specs.Edits.{edit_at}
 use Rattle.named_list.specs.Places.{places_from, places_of}
-use Rattle.named_list.proofs.Finding.{find_filter_other}
+use Rattle.row_tree.proofs.Finding.{find_filter_other}
 
 -- the first of the items that pass is the one that is found
 pub first_found : {T : Type 0} (p : T → Bool) (xs : List T) → slice_get (filter p xs) 0 ≡ find p xs

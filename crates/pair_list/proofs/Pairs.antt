@@ -14,7 +14,7 @@ use Rattle.row_tree.specs.Order.{put_in_order}
 use Rattle.row_tree.specs.Split.{NonePass}
 use Rattle.pair_list.specs.Places.{Tells, has_pair, is_of, key, noted, place_cmp, place_cmp_total}
 use Rattle.pair_list.specs.declared.place.PairPlace.{PairPlace}
-use Rattle.pair_list.proofs.Finding.{find_alike, find_put_here, find_put_other, none_found}
+use Rattle.row_tree.proofs.Finding.{find_alike, find_put_here, find_put_other, none_found}
 
 one_more : (n l m k : ℕ) (b : Bool) → n ≤ l → m ≡ cond (n == l) (l + cond b 0 1) n → k ≡ l + 1
     → cond (nat_lt m k) (Some m) None ≡ option_or (cond (nat_lt n l) (Some n) None) (cond b (Some l) None)

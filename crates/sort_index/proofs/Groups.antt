@@ -14,7 +14,7 @@ use Rattle.sort_index.specs.Ready.{EditsRows, group_cmp, key, is_of, is_past, is
 use Rattle.sort_index.specs.ReadyLaws.{group_cmp_total}
 use Rattle.sort_index.specs.declared.group.Group.{Group}
 use Rattle.sort_index.specs.declared.group.Ready.{Ready}
-use Rattle.sort_index.proofs.Finding.{find_put_other, find_put_here, find_filter_other, none_kept, find_none, find_alike}
+use Rattle.row_tree.proofs.Finding.{find_put_other, find_put_here, find_filter_other, none_kept, find_none, find_alike}
 
 is_Equal : (o : Ordering) → is_eq o ≡ true → o ≡ Equal
 is_Equal Less e = cc e

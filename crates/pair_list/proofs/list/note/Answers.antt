@@ -1,7 +1,7 @@
 use Rattle.std.proofs.Common.{sym, ◌∙◌}
 use Rattle.std.specs.List.{find}
 use Rattle.pair_list.specs.Places.{is_of}
-use Rattle.pair_list.proofs.Finding.{none_found}
+use Rattle.row_tree.proofs.Finding.{none_found}
 use Rattle.pair_list.proofs.Pairs.{free_for, is_none}
 use Rattle.pair_list.proofs.list.note.Goals as goal
 

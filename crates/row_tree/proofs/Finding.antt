@@ -1,4 +1,4 @@
--- What is found in rows after an edit.
+-- What is found in rows after an edit, for crates that keep rows in their order.
 use Rattle.std.proofs.Common.{◌≡◌, Bool, true, false, not, cond, List, [], ◌∷◌, filter, Some, None, refl, sym, ap, ◌∙◌}
 use Rattle.std.specs.List.{find}
 use Rattle.std.specs.Ordering.{is_lt}
@@ -42,6 +42,12 @@ none_kept k p same [] = tt
 none_kept {T} k p same (x ∷ xs) =
     let P : Bool → Type 0 = λ b. not (k x) ≡ b → NonePass p (cond b (x ∷ filter (λ y. not (k y)) xs) (filter (λ y. not (k y)) xs)) in
     elim (not (k x)) as P [ true ↦ λ e. (same x ∙ fails_not (k x) e, none_kept k p same xs) | false ↦ λ e. none_kept k p same xs ] refl
+
+pub none_found : {T : Type 0} (p : T → Bool) (xs : List T) → find p xs ≡ None → NonePass p xs
+none_found p [] none = tt
+none_found {T} p (x ∷ xs) none =
+    let P : Bool → Type 0 = λ b. p x ≡ b → cond b (Some x) (find p xs) ≡ None → NonePass p (x ∷ xs) in
+    elim (p x) as P [ true ↦ λ e found. cc found | false ↦ λ e found. (e, none_found p xs found) ] refl none
 
 pub find_none : {T : Type 0} (p : T → Bool) (xs : List T) → NonePass p xs → find p xs ≡ None
 find_none p [] none = refl
