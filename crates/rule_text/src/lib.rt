@@ -1,6 +1,7 @@
 //! Conditions as texts: what a text says, and how a condition is written.
 #![tactic(auto)]
 
+mod coming;
 mod fault;
 mod laws;
 mod lexer;
@@ -9,7 +10,6 @@ mod outline;
 mod printer;
 mod quoted;
 mod reader;
-mod steps;
 mod stop;
 mod symbols;
 mod tokens;

@@ -11,7 +11,6 @@ ghost use Rattle.rule_conditions.specs.Lexing.{behind_space};
 use crate::fault::ReadFault;
 use crate::lexer::{behind_space, token_at};
 use crate::outline::{Outline, Phase};
-use crate::steps::{finish, step};
 use crate::stop::Stop;
 use payload_records::List;
 use rule_conditions::Cond;
@@ -34,7 +33,7 @@ fn ended<'a>(outline: Outline, rest: &'a [u8]) -> Result<Cond, Stop<'a>>
     ensures ok { IfOk result (λ condition. Reads outline rest.now (Ok condition)) }
     ensures err { IfErr result (λ e. StopsWith e (Reads outline rest.now)) }
 {
-    match finish(outline)? {
+    match outline.finish()? {
         Some(condition) => Ok(condition),
         None => Err(Stop::At(rest)),
     }
@@ -50,7 +49,7 @@ fn condition_at<'a>(alloc: Global, text: &'a [u8]) -> Result<Cond, Stop<'a>>
     let mut rest = behind_space(text);
     'tokens: while !rest.is_empty() {
         let (token, after) = token_at(alloc, &outline, rest)?;
-        match step(alloc, outline, token)? {
+        match outline.step(alloc, token)? {
             Some(next) => outline = next,
             None => unreachable!(),
         }
