@@ -1,8 +1,11 @@
-"""Where the benches run the program, which keeps its databases as files in the folder that it is run in."""
+"""Where the benches run the program, which keeps its databases as files in the folder that it is run in, and how."""
 import os
 import tempfile
 
 MEMORY = "/dev/shm"
+
+# (as ./aqd runs it: a large heap in large pages, where the system gives them on request)
+os.environ.setdefault("GLIBC_TUNABLES", "glibc.malloc.hugetlb=1")
 
 
 def databases():
