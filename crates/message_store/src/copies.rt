@@ -1,36 +1,103 @@
 // Copies of changes.
 ghost use Rattle.std.specs.Prelude.{◌≡◌, IfOk};
+ghost use Rattle.queue_rows.specs.declared.change.Change.TheVariants as changes;
 
-use payload_records::{Copied, List};
-use queue_rows::Change;
+use payload_records::{Boxed, Copied, List, Name};
+use queue_rows::{Change, MsgRow, QueueRow, ScheduleRow, SeenRow, SubRow, TableRow};
 use std::alloc::AllocError;
+
+fn table_put(row: &Boxed<TableRow>) -> Result<Change, AllocError>
+    ensures { IfOk result (λ copy. copy ≡ changes.PutTable row.now) }
+{
+    Ok(Change::PutTable(row.copied()?))
+}
+
+fn table_drop(name: &Name) -> Result<Change, AllocError>
+    ensures { IfOk result (λ copy. copy ≡ changes.DropTable name.now) }
+{
+    Ok(Change::DropTable(name.copied()?))
+}
+
+fn queue_put(row: &Boxed<QueueRow>) -> Result<Change, AllocError>
+    ensures { IfOk result (λ copy. copy ≡ changes.PutQueue row.now) }
+{
+    Ok(Change::PutQueue(row.copied()?))
+}
+
+fn queue_drop(name: &Name) -> Result<Change, AllocError>
+    ensures { IfOk result (λ copy. copy ≡ changes.DropQueue name.now) }
+{
+    Ok(Change::DropQueue(name.copied()?))
+}
+
+fn sub_put(row: &Boxed<SubRow>) -> Result<Change, AllocError>
+    ensures { IfOk result (λ copy. copy ≡ changes.PutSub row.now) }
+{
+    Ok(Change::PutSub(row.copied()?))
+}
+
+fn sub_drop(queue: &Name, name: &Name) -> Result<Change, AllocError>
+    ensures { IfOk result (λ copy. copy ≡ changes.DropSub queue.now name.now) }
+{
+    Ok(Change::DropSub {
+        queue: queue.copied()?,
+        name: name.copied()?,
+    })
+}
+
+fn schedule_put(row: &Boxed<ScheduleRow>) -> Result<Change, AllocError>
+    ensures { IfOk result (λ copy. copy ≡ changes.PutSchedule row.now) }
+{
+    Ok(Change::PutSchedule(row.copied()?))
+}
+
+fn schedule_drop(queue: &Name, to: &Name) -> Result<Change, AllocError>
+    ensures { IfOk result (λ copy. copy ≡ changes.DropSchedule queue.now to.now) }
+{
+    Ok(Change::DropSchedule {
+        queue: queue.copied()?,
+        to: to.copied()?,
+    })
+}
+
+fn enqueued(row: &Boxed<MsgRow>) -> Result<Change, AllocError>
+    ensures { IfOk result (λ copy. copy ≡ changes.Enqueued row.now) }
+{
+    Ok(Change::Enqueued(row.copied()?))
+}
+
+fn moved(id: u64, queue: &Name, at: u64) -> Result<Change, AllocError>
+    ensures { IfOk result (λ copy. copy ≡ changes.Moved id queue.now at) }
+{
+    Ok(Change::Moved {
+        id,
+        queue: queue.copied()?,
+        at,
+    })
+}
+
+fn seen(row: &SeenRow) -> Result<Change, AllocError>
+    ensures { IfOk result (λ copy. copy ≡ changes.Seen row.now) }
+{
+    Ok(Change::Seen(row.copied()?))
+}
 
 /// A copy, which is the same change.
 fn copy_of(change: &Change) -> Result<Change, AllocError>
     ensures { IfOk result (λ copy. copy ≡ change.now) }
 {
     match change {
-        Change::PutTable(row) => Ok(Change::PutTable(row.copied()?)),
-        Change::DropTable(name) => Ok(Change::DropTable(name.copied()?)),
-        Change::PutQueue(row) => Ok(Change::PutQueue(row.copied()?)),
-        Change::DropQueue(name) => Ok(Change::DropQueue(name.copied()?)),
-        Change::PutSub(row) => Ok(Change::PutSub(row.copied()?)),
-        Change::DropSub { queue, name } => Ok(Change::DropSub {
-            queue: queue.copied()?,
-            name: name.copied()?,
-        }),
-        Change::PutSchedule(row) => Ok(Change::PutSchedule(row.copied()?)),
-        Change::DropSchedule { queue, to } => Ok(Change::DropSchedule {
-            queue: queue.copied()?,
-            to: to.copied()?,
-        }),
-        Change::Enqueued(row) => Ok(Change::Enqueued(row.copied()?)),
-        Change::Moved { id, queue, at } => Ok(Change::Moved {
-            id: *id,
-            queue: queue.copied()?,
-            at: *at,
-        }),
-        Change::Seen(row) => Ok(Change::Seen(row.copied()?)),
+        Change::PutTable(row) => table_put(row),
+        Change::DropTable(name) => table_drop(name),
+        Change::PutQueue(row) => queue_put(row),
+        Change::DropQueue(name) => queue_drop(name),
+        Change::PutSub(row) => sub_put(row),
+        Change::DropSub { queue, name } => sub_drop(queue, name),
+        Change::PutSchedule(row) => schedule_put(row),
+        Change::DropSchedule { queue, to } => schedule_drop(queue, to),
+        Change::Enqueued(row) => enqueued(row),
+        Change::Moved { id, queue, at } => moved(*id, queue, *at),
+        Change::Seen(row) => seen(row),
         Change::Retried {
             id,
             slot,
