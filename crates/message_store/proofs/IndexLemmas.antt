@@ -17,9 +17,9 @@ use Rattle.queue_rows.proofs.Sessions.{get_set-same}
 use Rattle.choice_laws.specs.Entries.{Entry}
 use Rattle.row_tree.specs.Edits.{edit_at}
 use Rattle.sort_index.specs.declared.group.Group.{Group}
-use Rattle.message_store.specs.Messages.{ids_of}
-use Rattle.message_store.specs.Stamped.{AreStamps, entries_of, IfIndexed, Forgets, Notes}
-use Rattle.message_store.proofs.EntryLemmas.{as_long, index_changed, index_pushed, index_removed}
+use Rattle.message_store.specs.Messages.{ids_of, IsOfSlot}
+use Rattle.message_store.specs.Stamped.{AreStamps, entries_of, IfIndexed, IfReady, Forgets, Notes, Turns}
+use Rattle.message_store.proofs.EntryLemmas.{as_long, entries_rise, entry_set, entry_there, index_changed, index_pushed, index_removed}
 
 none_within : (ms : List MsgRow) (at : ℕ) → slice_get ms at ≡ None → at < length ms → ⊥
 none_within [] at none within = omega (arith, within)
@@ -68,6 +68,23 @@ module _ (Indexes : List Entry → List Group → Type 0) where
       → Notes Indexes s m before after → IfIndexed Indexes (entries_of ss ms) before → IfIndexed Indexes (entries_of now_ss (ms ++ m ∷ [])) after
   pushed ids ss now_ids now_ss ms s m before after is stamps more now_stamps notes ready =
       index_pushed Indexes ss now_ss ms s m before after (as_long ids ss ms is stamps) more now_stamps.rise notes ready
+
+-- a slot of the message at an index is changed
+pub slot_edited : (ids ss : List ℕ) (ms now : List MsgRow) (at s slot : ℕ) (edit : MsgRow → MsgRow) (before after : Option (List Group))
+    → AreStamps (length ids) ss → at < length ms → slice_get ss at ≡ Some s → now ≡ edit_at ms at edit → IsOfSlot slot edit
+    → IfSome (slice_get now at) (λ n. Turns s slot n before after)
+    → IfReady (entries_of ss ms) before → IfReady (entries_of ss now) after
+slot_edited ids ss ms now at s slot edit before after stamps within stamp is of turns ready =
+    let own = message_there ms at within in
+    let n = edit own.message in
+    let set : now ≡ slice_set ms at n = is ∙ ap (λ o. option_map_or (λ row. slice_set ms at (edit row)) o ms) own.there in
+    let changed : slice_get now at ≡ Some n = ap (λ rows. slice_get rows at) set ∙ get_set-same ms at n within in
+    let turn = subst (λ (o : Option MsgRow). IfSome o (λ n. Turns s slot n before after)) changed turns in
+    let rises = entries_rise ss ms stamps.rise in
+    let there = entry_there ss ms at s own.message stamp own.there in
+    subst (λ (rows : List MsgRow). IfReady (entries_of ss rows) after) (sym set)
+    (subst (λ (es : List Entry). IfReady es after) (entry_set ss ms at s n stamp)
+    (turn own.message of.change of.keeps (of.is own.message) (entries_of ss ms) at rises there ready))
 
 -- ---- what is due
 

@@ -1,8 +1,10 @@
 -- Messages, and the index that finds them by their numbers.
 use Rattle.std.specs.Prelude.{◌≡◌, ◌==◌, ℕ, List, Bool, Option, map, option_map, slice_get}
 use Rattle.std.specs.Str.{bytes_eq}
-use Rattle.queue_rows.specs.Rows.{changed_first}
+use Rattle.queue_rows.specs.Rows.{changed_first, with_slot}
 use Rattle.queue_rows.specs.declared.rows.MsgRow.{MsgRow}
+use Rattle.queue_rows.specs.declared.rows.SlotRow.{SlotRow}
+use Rattle.choice_laws.specs.ShownLaws.{KeepsRecipient}
 use Rattle.message_store.specs.Rows.{Rows}
 
 -- the numbers of messages, in order
@@ -20,3 +22,9 @@ with_changed id change rows = record rows { items = changed_first (λ m. m.id ==
 -- a change of a message leaves its number
 abbrev pub KeepsId : (MsgRow → MsgRow) → Type 0
 KeepsId change = (m : MsgRow) → (change m).id ≡ m.id
+
+-- what is changed of a message is that slot, which is left to its recipient
+pub record IsOfSlot (slot : ℕ) (edit : MsgRow → MsgRow) : Type 0 where
+  pub change : SlotRow → SlotRow
+  pub keeps : KeepsRecipient change
+  pub is : (m : MsgRow) → edit m ≡ with_slot slot change m

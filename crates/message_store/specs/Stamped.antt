@@ -1,9 +1,12 @@
 -- Messages under the stamps of an index, and indexes of their slots, each where it is kept: of those that are ready, and of those that
 -- are ready and go to the other database.
 use Rattle.std.specs.Prelude.{◌≡◌, ◌<◌, ℕ, List, [], ◌∷◌, Option, Some, IfSome, insert, length, remove, slice_get}
+use Rattle.queue_rows.specs.Rows.{with_slot}
+use Rattle.queue_rows.specs.declared.rows.SlotRow.{SlotRow}
 use Rattle.std.specs.List.{AllByRecursion}
 use Rattle.queue_rows.specs.declared.rows.MsgRow.{MsgRow}
-use Rattle.choice_laws.specs.Entries.{Entry, AreRising}
+use Rattle.choice_laws.specs.Entries.{Entry, AreRising, with_message}
+use Rattle.choice_laws.specs.ShownLaws.{KeepsRecipient}
 use Rattle.message_choice.specs.Indexed.{IndexesReady}
 use Rattle.remote_slots.specs.ReadyEdits.{entry}
 use Rattle.remote_slots.specs.Remote.{IndexesRemote}
@@ -48,3 +51,9 @@ abbrev pub Notes : (List Entry → List Group → Type 0) → ℕ → MsgRow →
 Notes Indexes stamp m before after = (entries : List Entry) (at : ℕ)
     → AreRising (insert entries at (entry stamp m))
     → IfIndexed Indexes entries before → IfIndexed Indexes (insert entries at (entry stamp m)) after
+
+-- a slot of the message under the stamp was changed, and left to its recipient: it stands there now as it is given
+abbrev pub Turns : ℕ → ℕ → MsgRow → (before after : Option (List Group)) → Type 0
+Turns stamp slot n before after = (m : MsgRow) (change : SlotRow → SlotRow) → KeepsRecipient change → n ≡ with_slot slot change m
+    → (entries : List Entry) (at : ℕ) → AreRising entries → slice_get entries at ≡ Some (entry stamp m)
+    → IfReady entries before → IfReady (with_message entries at (entry stamp m) n) after

@@ -3,11 +3,11 @@ ghost use Rattle.std.specs.Prelude.{◌≡◌, ◌==◌, ◌+◌, ◌-◌, ◌<�
 ghost use Rattle.std.specs.Str.{bytes_eq};
 ghost use Rattle.queue_rows.specs.Rows.{with_slot};
 ghost use Rattle.queue_rows.specs.Tables.{in_state, moved_to, retried};
-ghost use Rattle.message_store.specs.Messages.{ids_of, with_changed, stands_in, KeepsId};
+ghost use Rattle.message_store.specs.Messages.{ids_of, with_changed, stands_in, IsOfSlot, KeepsId};
 ghost use Rattle.message_store.specs.Rows.{filtered, without_first};
 ghost use Rattle.message_store.specs.Caches.{AreOf};
-ghost use Rattle.message_store.specs.DueKept.{Gains, IfDue, keeps_in};
-ghost use Rattle.message_store.specs.Stamped.{AreStamps, Forgets, Notes};
+ghost use Rattle.message_store.specs.DueKept.{Gains, IfDue, Loses, keeps_in};
+ghost use Rattle.message_store.specs.Stamped.{AreStamps, Forgets, Notes, Turns};
 ghost use Rattle.message_choice.specs.Indexed.{IndexesReady};
 ghost use Rattle.remote_slots.specs.Remote.{IndexesRemote};
 ghost use Rattle.row_tree.specs.Edits.{edit_at};
@@ -16,6 +16,7 @@ use crate::caches::Caches;
 use crate::edits::{MoveTo, Retry, SetState};
 use crate::find::find;
 use crate::message_index::MessageIndex;
+use crate::ready_cache::ReadyCache;
 use crate::row_room::RowRoom;
 use payload_records::Name;
 use queue_rows::{MsgRow, SlotRow, SlotState};
@@ -50,6 +51,30 @@ impl Model for OpenMessages {
         × AreOf m.index.stamps m.rows m.caches };
 }
 
+// The rows of a message that stands under the stamp, and is the only one of its number or not, go from each cache but that of ready slots.
+fn take_rest(caches: &mut Caches, stamp: u64, message: &MsgRow, alone: bool)
+    ensures ready { caches.new.ready.slots ≡ caches.old.ready.slots }
+    ensures remote { Forgets IndexesRemote stamp message.now caches.old.remote.slots caches.new.remote.slots }
+    ensures keeps { caches.new.due.keeps ≡ caches.old.due.keeps }
+    ensures due { Loses (keeps_in caches.old.due.keeps) alone message.now.id
+        caches.old.due.slots caches.new.due.slots }
+{
+    caches.remote.remove(stamp, message);
+    caches.due.remove(message, alone);
+}
+
+// The rows of a message that stands under the stamp come to each cache but that of ready slots.
+fn put_rest(caches: &mut Caches, stamp: u64, message: &MsgRow)
+    ensures ready { caches.new.ready.slots ≡ caches.old.ready.slots }
+    ensures remote { Notes IndexesRemote stamp message.now caches.old.remote.slots caches.new.remote.slots }
+    ensures keeps { caches.new.due.keeps ≡ caches.old.due.keeps }
+    ensures due { Gains (keeps_in caches.old.due.keeps) message.now
+        caches.old.due.slots caches.new.due.slots }
+{
+    caches.remote.put(stamp, message);
+    caches.due.put(message);
+}
+
 // The rows of the message at an index, which stands under the stamp, go from each cache.
 fn take_from(caches: &mut Caches, rows: &Tree<MsgRow>, index: &MessageIndex, at: usize, stamp: u64)
     requires { index.now.ids ≡ ids_of rows.now }
@@ -63,8 +88,7 @@ fn take_from(caches: &mut Caches, rows: &Tree<MsgRow>, index: &MessageIndex, at:
 {
     if let Some(message) = rows.get(at) {
         caches.ready.remove(stamp, message);
-        caches.remote.remove(stamp, message);
-        caches.due.remove(message, index.is_alone(message.id));
+        take_rest(caches, stamp, message, index.is_alone(message.id));
     }
 }
 
@@ -80,8 +104,51 @@ fn put_into(caches: &mut Caches, rows: &Tree<MsgRow>, at: usize, stamp: u64)
 {
     if let Some(message) = rows.get(at) {
         caches.ready.put(stamp, message);
-        caches.remote.put(stamp, message);
-        caches.due.put(message);
+        put_rest(caches, stamp, message);
+    }
+}
+
+// The rows of the message at an index, which stands under the stamp, go from each cache but that of ready slots.
+fn take_beside(
+    caches: &mut Caches,
+    rows: &Tree<MsgRow>,
+    index: &MessageIndex,
+    at: usize,
+    stamp: u64,
+)
+    requires { index.now.ids ≡ ids_of rows.now }
+    ensures ready { caches.new.ready.slots ≡ caches.old.ready.slots }
+    ensures remote { IfSome (slice_get rows.now at)
+        (λ m. Forgets IndexesRemote stamp m caches.old.remote.slots caches.new.remote.slots) }
+    ensures keeps { caches.new.due.keeps ≡ caches.old.due.keeps }
+    ensures due { let keeps = keeps_in caches.old.due.keeps in
+        IfDue keeps rows.now caches.old.due.slots → IfDue keeps (remove rows.now at) caches.new.due.slots }
+{
+    if let Some(message) = rows.get(at) {
+        take_rest(caches, stamp, message, index.is_alone(message.id));
+    }
+}
+
+// The rows of the message at an index, which stands under the stamp, come to each cache but that of ready slots.
+fn put_beside(caches: &mut Caches, rows: &Tree<MsgRow>, at: usize, stamp: u64)
+    ensures ready { caches.new.ready.slots ≡ caches.old.ready.slots }
+    ensures remote { IfSome (slice_get rows.now at)
+        (λ m. Notes IndexesRemote stamp m caches.old.remote.slots caches.new.remote.slots) }
+    ensures keeps { caches.new.due.keeps ≡ caches.old.due.keeps }
+    ensures due { let keeps = keeps_in caches.old.due.keeps in
+        IfSome (slice_get rows.now at) (λ m. Gains keeps m caches.old.due.slots caches.new.due.slots) }
+{
+    if let Some(message) = rows.get(at) {
+        put_rest(caches, stamp, message);
+    }
+}
+
+// A slot of the message at an index, which stands under the stamp, was changed.
+fn turn_slot(ready: &mut ReadyCache, rows: &Tree<MsgRow>, at: usize, stamp: u64, slot: u64)
+    ensures { IfSome (slice_get rows.now at) (λ n. Turns stamp slot n ready.old.slots ready.new.slots) }
+{
+    if let Some(message) = rows.get(at) {
+        ready.change_slot(stamp, message, slot);
     }
 }
 
@@ -212,11 +279,34 @@ impl OpenMessages {
         put_into(&mut self.caches, &self.rows, at, stamp);
     }
 
+    // A slot of the first message of that number is changed, and left to its recipient: of the ready slots only the rows of those for whom it
+    // counts are looked at.
+    fn edit_slot<E: Edit<MsgRow> + Drop>(&mut self, id: u64, slot: u64, edit: E)
+        requires { IsOfSlot slot (E.edited edit) }
+        ensures { self.new ≡ with_changed id (E.edited edit) self.old }
+    {
+        if let Some(at) = self.position(id) {
+            self.edit_slot_at(at, slot, edit);
+        }
+    }
+
+    fn edit_slot_at<E: Edit<MsgRow> + Drop>(&mut self, at: usize, slot: u64, edit: E)
+        requires within { at < length self.old.items }
+        requires slot { IsOfSlot slot (E.edited edit) }
+        ensures { self.new ≡ record self.old { items = edit_at self.old.items at (E.edited edit) } }
+    {
+        let stamp = self.index.stamp_at(at);
+        take_beside(&mut self.caches, &self.rows, &self.index, at, stamp);
+        self.rows.edit(at, edit);
+        put_beside(&mut self.caches, &self.rows, at, stamp);
+        turn_slot(&mut self.caches.ready, &self.rows, at, stamp, slot);
+    }
+
     /// The slot of the first message of that number is in that state from a moment on. It needs no memory.
     pub(crate) fn set_state(&mut self, id: u64, slot: u64, state: SlotState, at: u64)
         ensures { self.new ≡ with_changed id (with_slot slot (in_state state at)) self.old }
     {
-        self.edit(id, SetState { slot, state, at });
+        self.edit_slot(id, slot, SetState { slot, state, at });
     }
 
     /// The slot of the first message of that number was rolled back so often; it waits, or is ready at once. It
@@ -231,8 +321,9 @@ impl OpenMessages {
     )
         ensures { self.new ≡ with_changed id (with_slot slot (retried retries until at)) self.old }
     {
-        self.edit(
+        self.edit_slot(
             id,
+            slot,
             Retry {
                 slot,
                 retries,

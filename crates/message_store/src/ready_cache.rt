@@ -2,7 +2,7 @@
 ghost use Rattle.std.specs.Prelude.{◌≡◌, [], length};
 ghost use Rattle.message_choice.specs.Indexed.{IndexesReady};
 ghost use Rattle.message_store.specs.Messages.{ids_of};
-ghost use Rattle.message_store.specs.Stamped.{AreStamps, Forgets, IfReady, Notes, entries_of};
+ghost use Rattle.message_store.specs.Stamped.{AreStamps, Forgets, IfReady, Notes, Turns, entries_of};
 
 use crate::message_index::MessageIndex;
 use queue_rows::MsgRow;
@@ -60,6 +60,19 @@ impl ReadyCache {
             return;
         };
         if slots.put(stamp, message).is_err() {
+            self.slots = None;
+        }
+    }
+
+    /// A slot of the message under the stamp was changed, and left to its recipient; the message is given as it stands now. Where there is no memory
+    /// for its rows, the index is let go.
+    pub(crate) fn change_slot(&mut self, stamp: u64, message: &MsgRow, slot: u64)
+        ensures { Turns stamp slot message.now self.old.slots self.new.slots }
+    {
+        let Some(slots) = &mut self.slots else {
+            return;
+        };
+        if slots.change_slot(stamp, message, slot).is_err() {
             self.slots = None;
         }
     }

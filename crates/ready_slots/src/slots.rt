@@ -2,6 +2,7 @@
 ghost use Rattle.std.specs.Prelude.{◌≡◌, OnOk, IfOk, [], option_copied};
 ghost use Rattle.ready_slots.specs.Edits.{Puts, Removes};
 ghost use Rattle.ready_slots.specs.Putting.{PutsEach, PutsNameless, PutsRow};
+ghost use Rattle.ready_slots.specs.Slot.{ChangesSlot, SetsNamed, SetsRow, slot_name};
 ghost use Rattle.ready_slots.specs.Taking.{TakesEach, TakesNameless, TakesRow};
 
 use crate::showing::{offered_to, shown};
@@ -26,6 +27,16 @@ impl Model for ReadySlots {
     ghost Value = { List Group };
 
     ghost view = { λ s. s.index.groups };
+}
+
+// The name of a slot's recipient.
+fn name_of(message: &MsgRow, slot: u64) -> Option<&Name>
+    ensures { option_copied result ≡ slot_name message.now slot }
+{
+    match message.slot(slot) {
+        Some(slot) => slot.name.as_ref(),
+        None => None,
+    }
 }
 
 fn copied(name: Option<&Name>) -> Result<Option<Name>, AllocError>
@@ -137,5 +148,43 @@ impl ReadySlots {
     {
         self.put_nameless(stamp, message)?;
         self.put_named(stamp, message)
+    }
+
+    // The consumer gets or loses the row of the message, by whether it is shown the message.
+    fn set_row(
+        &mut self,
+        stamp: u64,
+        message: &MsgRow,
+        consumer: Option<&Name>,
+    ) -> Result<(), AllocError>
+        ensures { OnOk result (SetsRow message.now (option_copied consumer.entry) stamp self.old self.new) }
+    {
+        if shown(message, consumer) {
+            self.put_row(stamp, message, consumer)
+        } else {
+            self.take(&message.queue, consumer, &message.place, stamp);
+            Ok(())
+        }
+    }
+
+    // The same of the consumer that a slot names.
+    fn set_named(&mut self, stamp: u64, message: &MsgRow, slot: u64) -> Result<(), AllocError>
+        ensures { OnOk result
+            (SetsNamed (slot_name message.now slot) message.now stamp self.old self.new) }
+    {
+        match name_of(message, slot) {
+            Some(name) => self.set_row(stamp, message, Some(name)),
+            None => Ok(()),
+        }
+    }
+
+    /// A slot of the message under a stamp was changed, and left to its recipient; the message is given as it stands now. It looks only at the
+    /// rows of those for whom the slot counts, however many slots there are. Where there is no memory the index is worth nothing any
+    /// more, and its owner is to let it go.
+    pub fn change_slot(&mut self, stamp: u64, message: &MsgRow, slot: u64) -> Result<(), AllocError>
+        ensures { OnOk result (ChangesSlot stamp slot message.now self.old self.new) }
+    {
+        self.set_row(stamp, message, None)?;
+        self.set_named(stamp, message, slot)
     }
 }
