@@ -6,4 +6,12 @@ mod due;
 #[cfg(test)]
 mod numbers;
 #[cfg(test)]
+mod ready_plain;
+#[cfg(test)]
+mod ready_random;
+#[cfg(test)]
+mod ready_rows;
+#[cfg(test)]
+mod ready_worked;
+#[cfg(test)]
 mod trees;

@@ -1,8 +1,8 @@
 // Puts and takes at random, beside a plain list.
 ghost use Rattle.std.specs.Prelude.{◌≡◌, ◌<◌};
 
-use crate::fixtures::{ALL_NAMES, Key, Row, is_row, key_of, put, take, take_out, told};
-use crate::plain;
+use crate::ready_plain;
+use crate::ready_rows::{ALL_NAMES, Key, Row, is_row, key_of, put, take, take_out, told};
 use sort_index::{ReadyIndex, Steps};
 use std::alloc::Global;
 use std::marker::Brand;
@@ -37,8 +37,8 @@ fn puts_alike(
     alloc: Global,
     row: &Row,
 ) -> Result<bool, Fail> {
-    let wanted = plain::slot_of(rows, row);
-    plain::put(rows, row)?;
+    let wanted = ready_plain::slot_of(rows, row);
+    ready_plain::put(rows, row)?;
     Ok(put(index, alloc, row)? == wanted)
 }
 
@@ -48,8 +48,8 @@ fn takes_alike(
     alloc: Global,
     row: &Row,
 ) -> Result<bool, Fail> {
-    let wanted = plain::slot_of(rows, row);
-    plain::drop_row(rows, row);
+    let wanted = ready_plain::slot_of(rows, row);
+    ready_plain::drop_row(rows, row);
     Ok(take(index, alloc, row)? == wanted)
 }
 
@@ -59,8 +59,8 @@ fn takes_first(
     alloc: Global,
     row: &Row,
 ) -> Result<bool, Fail> {
-    if let Some(first) = plain::first_at(rows, row) {
-        plain::drop_row(rows, &first);
+    if let Some(first) = ready_plain::first_at(rows, row) {
+        ready_plain::drop_row(rows, &first);
     }
     take_out(index, alloc, row)?;
     Ok(true)
@@ -89,7 +89,7 @@ fn begins_alike<L: Ledger>(
     names: u64,
     steps: &mut Steps<L>,
 ) -> bool {
-    let wanted = plain::least(rows, names);
+    let wanted = ready_plain::least(rows, names);
     let first = index.first(&key.queue, key.consumer.as_ref());
     let next = index.next(&key.queue, key.consumer.as_ref(), None, steps);
     first == told(wanted) && next == told(wanted)
@@ -104,7 +104,7 @@ fn goes_on_alike<L: Ledger>(
 ) -> bool {
     let after = Some((&key.place, from.id));
     let row = index.next_row(&key.queue, key.consumer.as_ref(), after, steps);
-    is_row(row, plain::least_past(rows, from))
+    is_row(row, ready_plain::least_past(rows, from))
 }
 
 fn goes_past_alike<L: Ledger>(
@@ -118,7 +118,7 @@ fn goes_past_alike<L: Ledger>(
         id: u64::MAX,
         ..*place
     };
-    let wanted = plain::least_past(rows, &behind);
+    let wanted = ready_plain::least_past(rows, &behind);
     let after = Some(&key.place);
     let row = index.first_row_past(&key.queue, key.consumer.as_ref(), after, steps);
     let next = index.next(&key.queue, key.consumer.as_ref(), after, steps);
@@ -134,7 +134,7 @@ fn walks_alike<L: Ledger>(
     steps: &mut Steps<L>,
 ) -> bool {
     let mut found = index.next_row(&key.queue, key.consumer.as_ref(), None, steps);
-    let mut wanted = plain::least(rows, names);
+    let mut wanted = ready_plain::least(rows, names);
     for _ in 0..rows.len() {
         if !is_row(found, wanted) {
             return false;
@@ -144,7 +144,7 @@ fn walks_alike<L: Ledger>(
         };
         let after = Some((&row.place, row.id));
         found = index.next_row(&key.queue, key.consumer.as_ref(), after, steps);
-        wanted = plain::least_past(rows, &last);
+        wanted = ready_plain::least_past(rows, &last);
     }
     is_row(found, wanted)
 }

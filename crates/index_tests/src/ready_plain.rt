@@ -1,5 +1,5 @@
 // A plain list of rows, which stand in no order and are searched whole.
-use crate::fixtures::Row;
+use crate::ready_rows::Row;
 use std::alloc::AllocError;
 
 fn has_key(row: &Row, key: &Row) -> bool {

@@ -1,7 +1,7 @@
 // Rows whose order was worked out by hand.
 ghost use Rattle.std.specs.Prelude.{◌≡◌, ◌+◌, ◌<◌};
 
-use crate::fixtures::{Key, Row, is_row, key_of, put, take, take_out};
+use crate::ready_rows::{Key, Row, is_row, key_of, put, take, take_out};
 use sort_index::{ReadyIndex, Steps};
 use std::alloc::Global;
 use std::marker::Brand;
