@@ -47,7 +47,7 @@ fn slot() -> SlotRow {
 }
 
 /// Facts of which nothing is known but the priority.
-fn facts(alloc: Global) -> Result<Facts, AllocError> {
+pub(crate) fn facts(alloc: Global) -> Result<Facts, AllocError> {
     let cells = Shared::new(alloc, List::new(alloc))?;
     Ok(Facts {
         priority: 1,
@@ -64,7 +64,13 @@ fn ready(alloc: Global) -> Result<List<SlotRow>, AllocError> {
 }
 
 /// A message of the group 1, made of these parts.
-fn message_of(id: u32, queue: Name, place: Place, facts: Facts, slots: List<SlotRow>) -> MsgRow
+pub(crate) fn message_of(
+    id: u32,
+    queue: Name,
+    place: Place,
+    facts: Facts,
+    slots: List<SlotRow>,
+) -> MsgRow
     ensures { HasNumbers (Enqueued result) }
 {
     MsgRow {

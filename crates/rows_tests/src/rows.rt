@@ -1,11 +1,11 @@
 // The rows that commits put.
-use payload_records::{List, Name, Record, RecordType, Shared};
+use crate::fixtures::{facts, message_of};
+use payload_records::{List, Name, RecordType};
 use place_keys::{Column, Place, SortList};
 use queue_rows::{
     MsgRow, QueueKind, QueueRow, ScheduleRow, SeenRow, SlotRow, SlotState, SubRow, TableRow,
 };
-use rule_conditions::Facts;
-use std::alloc::{AllocError, Global};
+use std::alloc::Global;
 use std::test::Fail;
 
 // ---- a queue table, its queues
@@ -118,30 +118,6 @@ fn slots(alloc: Global) -> Result<List<SlotRow>, Fail> {
     let mut slots = List::new(alloc);
     slots.push(slot(alloc, "a")?)?;
     Ok(slots)
-}
-
-fn facts(alloc: Global) -> Result<Facts, AllocError> {
-    let cells = Shared::new(alloc, List::new(alloc))?;
-    Ok(Facts {
-        priority: 1,
-        corr: None,
-        cells: Record { cells },
-        props: List::new(alloc),
-    })
-}
-
-fn message_of(id: u32, queue: Name, place: Place, facts: Facts, slots: List<SlotRow>) -> MsgRow {
-    MsgRow {
-        id: u64::from(id),
-        queue,
-        place,
-        facts,
-        exception: None,
-        enq: 1,
-        group: 1,
-        moved: false,
-        slots,
-    }
 }
 
 /// A message of a queue in that lane, with one slot, which is ready for `a`.
