@@ -13,7 +13,8 @@ use Rattle.queue_rows.specs.declared.tables.Tables.{Tables}
 use Rattle.queue_rows.specs.declared.history.SlotRef.{SlotRef}
 use Rattle.queue_rows.specs.declared.statement.Admin.{Admin}
 use Rattle.queue_rows.specs.declared.statement.Admin.TheVariants as asks
-use Rattle.sessions.specs.States.{IsStateOf, AreMarks}
+use Rattle.queue_rows.specs.Session.{AreMarks}
+use Rattle.sessions.specs.States.{IsStateOf}
 use Rattle.sessions.specs.declared.state.SessionState.{SessionState}
 use Rattle.admin_ops.specs.Shown.{session_with, sessions_from}
 

@@ -10,7 +10,8 @@ use Rattle.queue_rows.specs.declared.history.SlotRef.{SlotRef}
 use Rattle.queue_rows.specs.declared.statement.Admin.{Admin}
 use Rattle.queue_rows.specs.Meaning.{Meaning}
 use Rattle.sessions.specs.Effects.{meant, plain_effect, IsAnswered, ids_of}
-use Rattle.sessions.specs.States.{IsStateOf, AreMarks}
+use Rattle.queue_rows.specs.Session.{AreMarks}
+use Rattle.sessions.specs.States.{IsStateOf}
 use Rattle.sessions.specs.declared.state.SessionState.{SessionState}
 use Rattle.sessions.specs.declared.state.Effect.{Effect}
 

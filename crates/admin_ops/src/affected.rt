@@ -5,10 +5,9 @@ ghost use Rattle.queue_rows.specs.Session.{is_same_consumer};
 ghost use Rattle.queue_rows.specs.Administration.{is_affected_at, is_added};
 ghost use Rattle.admin_ops.specs.Affecting.{affecting, goes_to, is_of};
 
-use exception_queues::MessageTables;
 use payload_records::Name;
 use queue_catalog::is_slot_of;
-use queue_rows::{MsgRow, Pending, SlotRow, SubRow};
+use queue_rows::{MessageTables, MsgRow, Pending, SlotRow, SubRow};
 
 /// The slots that a statement touches.
 #[derive(Clone, Copy)]

@@ -5,10 +5,10 @@ ghost use Rattle.admin_ops.specs.Meaning.{HasMeaning, IsPlain, MeansToAdminister
 
 use crate::outstanding::{Work, is_hindered};
 use aq_base::DbId;
-use exception_queues::{MessageTables, settle};
+use exception_queues::settle;
 use payload_records::List;
 use queue_catalog::{CatalogFault, judge};
-use queue_rows::{Admin, Change, Reply, SlotRef};
+use queue_rows::{Admin, Change, MessageTables, Reply, SlotRef};
 use row_locks::RowLocks;
 use sessions::{Effect, SessionState, Verdict};
 use std::alloc::{AllocError, Global};

@@ -10,10 +10,9 @@ ghost use Rattle.admin_ops.specs.Shown.{session_with, sessions_of, works_at, wor
 
 use crate::affected::{Affected, is_added, is_affected_at};
 use aq_base::DbId;
-use exception_queues::MessageTables;
 use payload_records::{List, Name};
 use queue_catalog::find_sub;
-use queue_rows::{Admin, SlotRef};
+use queue_rows::{Admin, MessageTables, SlotRef};
 use row_locks::RowLocks;
 use sessions::SessionState;
 

@@ -19,7 +19,8 @@ use Rattle.queue_rows.specs.declared.reply.Reply.{Reply}
 use Rattle.queue_rows.specs.declared.reply.Reply.TheVariants as replies
 use Rattle.queue_rows.specs.declared.statement.Statement.{Statement}
 use Rattle.aq_base.specs.declared.DbId.{DbId}
-use Rattle.sessions.specs.States.{AreMarks, IsStateOf}
+use Rattle.queue_rows.specs.Session.{AreMarks}
+use Rattle.sessions.specs.States.{IsStateOf}
 use Rattle.sessions.specs.declared.state.SessionState.{SessionState}
 use Rattle.world_laws.specs.ValidWorld.{AreScripts}
 use Rattle.world_laws.proofs.Worlds.{asked}

@@ -30,7 +30,8 @@ use Rattle.queue_rows.specs.declared.statement.Statement.{Statement}
 use Rattle.queue_rows.specs.declared.statement.Statement.TheVariants as statements
 use Rattle.sessions.specs.Effects.{meant, meant_by, pending_with, marks_with, marks_without, positions_after}
 use Rattle.sessions.specs.Numbers.{IsPendable}
-use Rattle.sessions.specs.States.{AreMarks, IsStateOf}
+use Rattle.queue_rows.specs.Session.{AreMarks}
+use Rattle.sessions.specs.States.{IsStateOf}
 use Rattle.sessions.specs.declared.state.Effect.{Effect}
 use Rattle.sessions.specs.declared.state.Verdict.TheVariants.{Answer, Park}
 use Rattle.sessions.specs.declared.state.SessionState.{SessionState}

@@ -19,7 +19,7 @@ use Rattle.queue_rows.specs.Distinct.{are_distinct}
 use Rattle.queue_rows.specs.Due.{due}
 use Rattle.queue_rows.specs.declared.change.Change.{Change}
 use Rattle.queue_rows.specs.declared.history.SlotRef.{SlotRef}
-use Rattle.sessions.specs.States.{AreMarks}
+use Rattle.queue_rows.specs.Session.{AreMarks}
 use Rattle.slot_marks.specs.Marks.{SessionMarks}
 use Rattle.queue_rows.specs.Statements.{slot_sent}
 use Rattle.queue_rows.specs.Turns.{due_at}

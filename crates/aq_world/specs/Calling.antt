@@ -8,7 +8,8 @@ use Rattle.queue_rows.specs.Session.{Session}
 use Rattle.queue_rows.specs.Within.{is_within}
 use Rattle.queue_rows.specs.declared.statement.Statement.{Statement}
 use Rattle.sessions.specs.Effects.{meant}
-use Rattle.sessions.specs.States.{AreMarks, IsStateOf}
+use Rattle.queue_rows.specs.Session.{AreMarks}
+use Rattle.sessions.specs.States.{IsStateOf}
 use Rattle.sessions.specs.declared.state.Effect.{Effect}
 use Rattle.sessions.specs.declared.state.SessionState.{SessionState}
 use Rattle.queue_rows.specs.Statements.{meaning, slot_sent}

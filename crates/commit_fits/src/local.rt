@@ -8,9 +8,8 @@ ghost use Rattle.queue_rows.specs.Catalog.{is_of_table, is_table_used};
 ghost use Rattle.queue_rows.specs.Settling.{is_exception};
 ghost use Rattle.fit_laws.specs.FitLaws.{is_same_kind, stands_for, is_further, goes_alone, is_local};
 
-use exception_queues::{find_queue, find_table};
 use payload_records::Name;
-use queue_rows::{Change, QueueKind, QueueRow, Tables};
+use queue_rows::{Change, QueueKind, QueueRow, Tables, find_queue, find_table};
 use std::alloc::AllocError;
 
 // ---- a queue is put

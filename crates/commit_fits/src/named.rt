@@ -4,9 +4,8 @@ ghost use Rattle.std.specs.List.{list_all};
 ghost use Rattle.fit_laws.specs.FitLaws.{holds_right_message, holds_right_table, holds_right_queue, holds_right_schedule, holds_right_sub, leaves_right, leaves_all_right};
 
 use aq_base::SUBSCRIBER_LIMIT;
-use exception_queues::{MessageTables, find_queue, find_table};
 use payload_records::{List, Name};
-use queue_rows::{Change, Tables};
+use queue_rows::{Change, MessageTables, Tables, find_queue, find_table};
 use std::alloc::AllocError;
 use valid_tables::{
     NamedRows, find_schedule, find_sub, has_right_numbers, is_valid_message, is_valid_queue,

@@ -3,10 +3,9 @@ ghost use Rattle.std.specs.Prelude.{◌≡◌, IfOk};
 ghost use Rattle.commit_fits.specs.Told.{TellsValid, TellsFit};
 
 use crate::named::leaves_all_right;
-use exception_queues::MessageTables;
 use fit_laws::fit_is_local;
 use payload_records::List;
-use queue_rows::Change;
+use queue_rows::{Change, MessageTables};
 use std::alloc::{AllocError, Global};
 use valid_tables::is_valid;
 

@@ -16,7 +16,8 @@ use Rattle.queue_rows.specs.declared.reply.Reply.{Reply}
 use Rattle.queue_rows.specs.declared.session.Position.{Position}
 use Rattle.queue_rows.specs.declared.statement.Dequeue.{Dequeue}
 use Rattle.sessions.specs.Effects.{meant, positions_after}
-use Rattle.sessions.specs.States.{AreMarks, IsStateOf}
+use Rattle.queue_rows.specs.Session.{AreMarks}
+use Rattle.sessions.specs.States.{IsStateOf}
 use Rattle.sessions.specs.declared.state.Effect.{Effect}
 use Rattle.sessions.specs.declared.state.PositionMove.{PositionMove}
 use Rattle.sessions.specs.declared.state.SessionState.{SessionState}

@@ -10,10 +10,9 @@ ghost use Rattle.dequeue_ops.specs.Asked.{CanDequeue, Does, IsDequeue, as_asked,
 use crate::answered::refuse;
 use crate::by_request::dequeue_by;
 use crate::request::{Asked, Request};
-use exception_queues::{find_queue, find_table};
 use message_choice::{ChoosesMessages, has_needless_consumer, lacks_consumer};
 use payload_records::Boxed;
-use queue_rows::{Dequeue, Mode, Navigation, QueueRow, Reply, TableRow};
+use queue_rows::{Dequeue, Mode, Navigation, QueueRow, Reply, TableRow, find_queue, find_table};
 use row_locks::RowLocks;
 use rule_checks::{CheckFault, read_checked};
 use sessions::{Effect, SessionState};

@@ -7,10 +7,11 @@ ghost use Rattle.dequeue_ops.specs.Given.{IsReply, MayCommit, mark_of, showing};
 
 use crate::reply::{retries_of, shown_in};
 use crate::request::Asked;
-use exception_queues::MessageTables;
 use message_groups::group_of;
 use payload_records::{Boxed, Copied, List};
-use queue_rows::{Change, GivenMessage, Mode, MsgId, MsgRow, Pending, Reply, Visibility};
+use queue_rows::{
+    Change, GivenMessage, MessageTables, Mode, MsgId, MsgRow, Pending, Reply, Visibility,
+};
 use sessions::{Effect, PositionMove, changes_alone};
 use slot_marks::Mark;
 use std::alloc::{AllocError, Global};

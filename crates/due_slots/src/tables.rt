@@ -3,7 +3,7 @@ ghost use Rattle.std.specs.Prelude.{◌≡◌, ◌==◌, IfSome, position};
 ghost use Rattle.due_slots.specs.Named.{NamesDue};
 
 use due_index::DueIndex;
-use exception_queues::MessageTables;
+use queue_rows::MessageTables;
 
 /// Tables, and the rows of what may be due in them.
 pub trait DueTables: MessageTables {

@@ -7,8 +7,7 @@ ghost use Rattle.due_tests.specs.Kept.{rows_after};
 
 use due_index::DueIndex;
 use due_slots::{DueSlots, DueTables, joined_tells, rows_are_few, rows_name_due};
-use exception_queues::MessageTables;
-use queue_rows::{MsgRow, Tables};
+use queue_rows::{MessageTables, MsgRow, Tables};
 use row_tree::Tree;
 use std::alloc::{AllocError, Global};
 

@@ -15,10 +15,10 @@ use crate::effect::refused;
 use crate::message::new_message;
 use crate::relative::{is_too_deep, relative_of};
 use aq_base::{DbId, NEXT_LIMIT};
-use exception_queues::{MessageTables, find_queue, find_table};
 use payload_records::{Boxed, Name, PayloadFault, Record};
 use queue_rows::{
-    Enqueue, LimitName, MsgId, MsgRow, Pending, QueueRow, Reply, TableRow, Tables, Visibility,
+    Enqueue, LimitName, MessageTables, MsgId, MsgRow, Pending, QueueRow, Reply, TableRow, Tables,
+    Visibility, find_queue, find_table,
 };
 use recipients::{ChosenFault, chosen};
 use sessions::{Effect, SessionState, Verdict, changes_alone};

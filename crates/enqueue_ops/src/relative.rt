@@ -7,10 +7,9 @@ ghost use Rattle.queue_rows.specs.Settling.{is_open};
 ghost use Rattle.queue_rows.specs.Session.{is_same_db, message_named};
 
 use aq_base::DbId;
-use exception_queues::MessageTables;
 use payload_records::{List, Name};
 use place_keys::BEFORE_LIMIT;
-use queue_rows::{Enqueue, MsgId, MsgRow, SlotRow, TableRow};
+use queue_rows::{Enqueue, MessageTables, MsgId, MsgRow, SlotRow, TableRow};
 
 fn is_same_db(left: DbId, right: DbId) -> bool
     ensures { result ≡ is_same_db left right }

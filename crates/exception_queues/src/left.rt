@@ -5,9 +5,8 @@ ghost use Rattle.queue_rows.specs.Tables.{in_state, retried, moved_to};
 ghost use Rattle.queue_rows.specs.Settling.{if_it, left_by};
 ghost use Rattle.exception_queues.specs.Left.{left_some};
 
-use crate::lookup::MessageTables;
 use payload_records::{Copied, Name};
-use queue_rows::{Change, MsgRow, SlotState};
+use queue_rows::{Change, MessageTables, MsgRow, SlotState};
 use std::alloc::AllocError;
 
 fn with_state(mut message: MsgRow, id: u64, slot: u64, state: SlotState, at: u64) -> Option<MsgRow>

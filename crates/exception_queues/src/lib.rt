@@ -2,12 +2,10 @@
 #![tactic(auto)]
 
 mod left;
-mod lookup;
 mod names;
 mod outcomes;
 mod settling;
 mod slots;
 
-pub use lookup::{MessageTables, find_queue, find_table};
 pub use settling::{exception_queue_of, settle};
 pub use slots::slot_of;

@@ -7,10 +7,9 @@ ghost use Rattle.exception_queues.specs.Left.{left_some};
 ghost use Rattle.exception_queues.specs.Outcomes.{outcome_of, outcome_after, next_outcome, Advances, AreOutcomes, GoesOn, Keeps, named_with, IsFollowed};
 
 use crate::left::{left_some, message_of};
-use crate::lookup::MessageTables;
 use crate::names::{moment_by, named_by};
 use payload_records::{List, SmallList};
-use queue_rows::{Change, MsgRow};
+use queue_rows::{Change, MessageTables, MsgRow};
 use smallvec::SmallVec;
 use std::alloc::{AllocError, Global};
 use std::collections::HashMap;

@@ -3,11 +3,10 @@ ghost use Rattle.std.specs.Prelude.{◌≡◌, ◌++◌, [], IfOk, OnOk, Some, N
 ghost use Rattle.queue_rows.specs.Settling.{is_exception_of, named_or_default, exception_queue_of, retention_of, is_lost, is_handled, is_kept_by_none, settling_of, settled};
 ghost use Rattle.exception_queues.specs.Outcomes.{outcome_of, settled_by, settling_by};
 
-use crate::lookup::{MessageTables, find_queue};
 use crate::outcomes::{Outcome, Outcomes, outcomes_of};
 use crate::slots::{all_gone, any_expired, any_open, any_processed, is_slot_processed};
 use payload_records::{Copied, List, Name};
-use queue_rows::{Change, MsgRow, QueueRow, Tables};
+use queue_rows::{Change, MessageTables, MsgRow, QueueRow, Tables, find_queue};
 use std::alloc::AllocError;
 
 fn is_lost(message: &MsgRow) -> bool

@@ -15,7 +15,7 @@ use Rattle.queue_rows.specs.declared.reply.Reply.TheVariants as replies
 use Rattle.queue_rows.specs.declared.statement.Listen.{Listen}
 use Rattle.queue_rows.specs.declared.statement.Statement.TheVariants as statements
 use Rattle.sessions.specs.Effects.{plain_effect}
-use Rattle.sessions.specs.States.{AreMarks}
+use Rattle.queue_rows.specs.Session.{AreMarks}
 use Rattle.sessions.specs.declared.state.SessionState.{SessionState}
 use Rattle.sessions.specs.declared.state.Verdict.TheVariants as verdicts
 use Rattle.listen_ops.specs.Listened.{IsListen, IsShown, ServesFirst}

@@ -15,7 +15,8 @@ use Rattle.queue_rows.specs.declared.statement.Listener.{Listener}
 use Rattle.queue_rows.specs.declared.statement.Mode.TheVariants.{Remove}
 use Rattle.queue_rows.specs.declared.statement.Navigation.TheVariants.{First}
 use Rattle.sessions.specs.Effects.{meant}
-use Rattle.sessions.specs.States.{AreMarks, IsStateOf}
+use Rattle.queue_rows.specs.Session.{AreMarks}
+use Rattle.sessions.specs.States.{IsStateOf}
 use Rattle.sessions.specs.declared.state.Effect.{Effect}
 use Rattle.sessions.specs.declared.state.SessionState.{SessionState}
 use Rattle.message_choice.specs.Asking.{IsLookOf}

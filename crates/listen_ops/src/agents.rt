@@ -2,10 +2,9 @@
 ghost use Rattle.std.specs.Prelude.{◌≡◌, option_copied};
 ghost use Rattle.queue_rows.specs.Listening.{agent_fault, agent_fault_in, agents_fault};
 
-use exception_queues::{find_queue, find_table};
 use message_choice::{has_needless_consumer, lacks_consumer};
 use payload_records::{List, Name};
-use queue_rows::{Listener, QueueRow, Reply, TableRow, Tables};
+use queue_rows::{Listener, QueueRow, Reply, TableRow, Tables, find_queue, find_table};
 
 fn agent_fault_in(
     queue: &QueueRow,

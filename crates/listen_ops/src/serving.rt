@@ -5,10 +5,11 @@ ghost use Rattle.slot_marks.specs.Marks.{marks_of};
 ghost use Rattle.message_choice.specs.Asking.{AreSound};
 ghost use Rattle.listen_ops.specs.Listened.{CanListen, IsFound, IsPickOf, IsServed, ServesFirst, agent_reply};
 
-use exception_queues::{find_queue, find_table};
 use message_choice::{Choice, ChoosesMessages, Pick};
 use payload_records::{Boxed, Copied, List};
-use queue_rows::{Listener, Mode, Navigation, QueueRow, Reply, ServedAgent, TableRow};
+use queue_rows::{
+    Listener, Mode, Navigation, QueueRow, Reply, ServedAgent, TableRow, find_queue, find_table,
+};
 use row_locks::RowLocks;
 use sort_index::Steps;
 use std::alloc::{AllocError, Global};

@@ -15,7 +15,7 @@ use Rattle.queue_rows.specs.Session.{Session, is_same_db, marks_slot, marks_grou
 use Rattle.queue_rows.specs.Dequeueing.{Look, given_named, given_slot, given_unheld, holder_for, is_browse, slot_for, slot_in}
 use Rattle.queue_rows.specs.declared.rows.MsgRow.{MsgRow}
 use Rattle.queue_rows.specs.declared.reply.Reply.TheVariants as replies
-use Rattle.sessions.specs.States.{AreMarks}
+use Rattle.queue_rows.specs.Session.{AreMarks}
 use Rattle.message_choice.specs.Asking.{IsLookOf, look_of}
 use Rattle.message_choice.specs.Claimed.{is_lost}
 use Rattle.message_choice.specs.declared.asking.Asking.{Asking}

@@ -14,7 +14,7 @@ use Rattle.slot_marks.specs.Marks.{SessionMarks, no_marks, marks_of, is_on, is_i
 use Rattle.slot_marks.specs.Marks as row
 use Rattle.queue_rows.specs.Session as session
 use Rattle.queue_rows.specs.Session.{Session, is_same_db, is_same_consumer, holds, marks_slot, marks_group, is_held_from, is_held}
-use Rattle.sessions.specs.States.{AreMarks}
+use Rattle.queue_rows.specs.Session.{AreMarks}
 use Rattle.message_choice.specs.Asking.{session_of, sessions_of}
 
 -- ---- tests

@@ -4,7 +4,7 @@ use Rattle.std.proofs.lemmas.Option.{same_Some}
 use Rattle.row_tree.specs.Found.{kept_by}
 use Rattle.queue_rows.specs.Dequeueing.{least, nearer}
 use Rattle.queue_rows.specs.declared.rows.MsgRow.{MsgRow}
-use Rattle.message_choice.proofs.Walking.{hit_by, missed_by}
+use Rattle.ready_slots.proofs.Leading.{hit_by, missed_by}
 
 module _ (test : MsgRow → Bool) (best : Option MsgRow) (m : MsgRow) (rest more all : List MsgRow) (split : more ≡ m ∷ rest) where
   pub nearest_goes_on : (hit near : MsgRow) → kept_by test (Some m) ≡ Some hit → Some near ≡ nearer best hit

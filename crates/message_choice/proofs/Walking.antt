@@ -24,7 +24,8 @@ use Rattle.choice_laws.proofs.Going.{rows_go_on}
 use Rattle.choice_laws.proofs.Looking.{looks_are_few, looks_past_are_few}
 use Rattle.choice_laws.proofs.Searching.{first_is_least, first_past_is_least}
 use Rattle.choice_laws.proofs.Standing.{rows_rise}
-use Rattle.message_choice.specs.Indexed.{IndexesReady, stamped}
+use Rattle.ready_slots.specs.Indexed.{IndexesReady, stamped}
+use Rattle.ready_slots.proofs.Leading.{missed_first, missed_looks, hit_first, hit_looks}
 use Rattle.message_choice.specs.Offered.{most_looks}
 use Rattle.message_choice.specs.Searched.{rows_in, rows_from, first_from, looks_from}
 use Rattle.message_choice.specs.Wanted.{lies_in, nearest_past, passes}
@@ -42,17 +43,6 @@ module _ {T U : Type 0} (told : T → U) where
   first_told : (xs : List T) → slice_get (map told xs) 0 ≡ option_map told (find (λ x. true) xs)
   first_told [] = refl
   first_told (x ∷ xs) = refl
-
--- ---- messages under stamps
-
--- what holds of all messages holds of the one under a stamp
-pub holds_at : (P : MsgRow → Type 0) (entries : List Entry) (stamp : ℕ) (m : MsgRow) → All P (messages_of entries) → message_at entries stamp ≡ Some m → P m
-holds_at P [] stamp m all e = cc e
-holds_at P (x ∷ xs) stamp m all e =
-    let first = All-head P x.message (messages_of xs) all in
-    let rest = All-tail P x.message (messages_of xs) all in
-    let Q : Bool → Type 0 = λ b. option_map (λ (y : Entry). y.message) (cond b (Some x) (find (λ (y : Entry). y.stamp == stamp) xs)) ≡ Some m → P m in
-    (elim (x.stamp == stamp) as Q [ true ↦ λ f. let same : x.message ≡ m = cc f in subst P same first | false ↦ λ f. holds_at P xs stamp m rest f ]) e
 
 -- ---- from which row the rows go on
 
@@ -80,46 +70,6 @@ module _ (l : Look) (entries : List Entry) (groups : List Group) (rising : AreRi
   behind_from_next row =
       rows_go_on.behind (stamped row) (rows_in l entries) rise
       ∙ ap (λ o. from_row o (rows_in l entries)) (ap (find (λ r. is_gt (row_cmp r (stamped row)))) (sym rows_are) ∙ find_told stamped (λ r. is_gt (row_cmp r (stamped row))) index_rows)
-
--- ---- one row
-
-module _ (test : MsgRow → Bool) where
-  pub missed_by : (o : Option MsgRow) → kept_by test o ≡ None → option_map_or test o false ≡ false
-  missed_by None e = refl
-  missed_by (Some m) e =
-      let P : Bool → Type 0 = λ b. cond b (Some m) None ≡ None → b ≡ false in
-      (elim (test m) as P [ true ↦ λ h. cc h | false ↦ λ h. refl ]) e
-
-  pub record IsHit (o : Option MsgRow) (m : MsgRow) : Type 0 where
-    pub passes : option_map_or test o false ≡ true
-    pub is : o ≡ Some m
-
-  pub hit_by : (o : Option MsgRow) (m : MsgRow) → kept_by test o ≡ Some m → IsHit o m
-  hit_by None m e = cc e
-  hit_by (Some n) m e =
-      let P : Bool → Type 0 = λ b. test n ≡ b → cond b (Some n) None ≡ Some m → IsHit (Some n) m in
-      (elim (test n) as P [ true ↦ λ h g. record { passes = h; is = g } | false ↦ λ h g. cc g ]) refl e
-
-module _ (entries : List Entry) (test : MsgRow → Bool) (r : Row) (rest : List Row) where
-  module _ (miss : kept_by test (message_at entries r.stamp) ≡ None) where
-    fails : rows.passes entries test r ≡ false
-    fails = missed_by test (message_at entries r.stamp) miss
-
-    pub missed_first : first_passing entries test (r ∷ rest) ≡ first_passing entries test rest
-    missed_first = ap (λ b. option_and_then (λ row. message_at entries row.stamp) (cond b (Some r) (find (rows.passes entries test) rest))) fails
-
-    pub missed_looks : looks (rows.passes entries test) (r ∷ rest) ≡ 1 + looks (rows.passes entries test) rest
-    missed_looks = ap (λ b. cond b 1 (1 + looks (rows.passes entries test) rest)) fails
-
-  module _ (m : MsgRow) (hit : kept_by test (message_at entries r.stamp) ≡ Some m) where
-    it : IsHit test (message_at entries r.stamp) m
-    it = hit_by test (message_at entries r.stamp) m hit
-
-    pub hit_first : first_passing entries test (r ∷ rest) ≡ Some m
-    hit_first = ap (λ b. option_and_then (λ row. message_at entries row.stamp) (cond b (Some r) (find (rows.passes entries test) rest))) it.passes ∙ it.is
-
-    pub hit_looks : looks (rows.passes entries test) (r ∷ rest) ≡ 1
-    hit_looks = ap (λ b. cond b 1 (1 + looks (rows.passes entries test) rest)) it.passes
 
 one_more : (r : Row) (xs ys : List Row) → xs ≡ ys → length (r ∷ xs) ≡ 1 + length ys
 one_more r xs ys same = let lengths : length xs ≡ length ys = ap (λ (rs : List Row). length rs) same in omega arith

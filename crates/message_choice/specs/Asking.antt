@@ -14,7 +14,7 @@ use Rattle.queue_rows.specs.declared.rows.TableRow.{TableRow}
 use Rattle.queue_rows.specs.declared.rows.MsgRow.{MsgRow}
 use Rattle.queue_rows.specs.declared.statement.Dequeue.{Dequeue}
 use Rattle.queue_rows.specs.declared.statement.Visibility.TheVariants.{Immediate}
-use Rattle.sessions.specs.States.{AreMarks}
+use Rattle.queue_rows.specs.Session.{AreMarks}
 use Rattle.message_choice.specs.declared.asking.Asking.{Asking}
 use Rattle.message_choice.specs.declared.asking.Pick.{Pick}
 

@@ -9,7 +9,7 @@ use Rattle.choice_laws.specs.Choosing as rows
 use Rattle.choice_laws.specs.Entries.{Entry, Row, AreRising, messages_of, rows_for}
 use Rattle.choice_laws.specs.GoingLaws.{from_row}
 use Rattle.message_choice.specs.Asking.{AreSoundFor}
-use Rattle.message_choice.specs.Indexed.{IndexesReady, stamped}
+use Rattle.ready_slots.specs.Indexed.{IndexesReady, stamped}
 use Rattle.message_choice.specs.Wanted.{passes}
 use Rattle.message_choice.specs.declared.asking.Asking.{Asking}
 use Rattle.message_choice.specs.declared.asking.Filter.{Filter}

@@ -11,7 +11,7 @@ ghost use Rattle.queue_rows.specs.Dequeueing.{least, past, of_group, past_group}
 ghost use Rattle.queue_rows.specs.declared.statement.Navigation.TheVariants.{Next};
 ghost use Rattle.choice_laws.specs.Entries.{AreRising, messages_of};
 ghost use Rattle.message_choice.specs.Asking.{AreSound, IsLookOf, look_of};
-ghost use Rattle.message_choice.specs.Indexed.{IndexesReady};
+ghost use Rattle.ready_slots.specs.Indexed.{IndexesReady};
 ghost use Rattle.message_choice.specs.Offered.{choice_by, choice_limit, offered, search_limit};
 ghost use Rattle.message_choice.specs.Wanted.{HasSlotFor, IsSlotFor, chosen_by, message_of, most_steps};
 ghost use Rattle.message_choice.specs.declared.asking.Filter.TheVariants as filters;

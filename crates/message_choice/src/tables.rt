@@ -7,9 +7,8 @@ ghost use Rattle.message_choice.specs.Wanted.{IsSlotFor, chosen_by, most_steps};
 
 use crate::asking::{Choice, Pick};
 use crate::choosing::choose_by_walk;
-use queue_rows::Tables;
+use queue_rows::{MessageTables, Tables};
 use row_locks::RowLocks;
-use sessions::MessageTables;
 use sort_index::Steps;
 use std::sync::ledger::Ledger;
 

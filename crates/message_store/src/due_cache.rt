@@ -10,10 +10,9 @@ use due_index::DueIndex;
 use due_slots::{
     DueSlots, joined_tells, rows_are_few, rows_have_its_number, rows_name_due, without_tells,
 };
-use exception_queues::find_queue;
 use named_list::NamedList;
 use payload_records::{Copied, List, Name};
-use queue_rows::{Change, MsgRow, QueueRow, Tables};
+use queue_rows::{Change, MsgRow, QueueRow, Tables, find_queue};
 use row_tree::Tree;
 use std::alloc::{AllocError, Global};
 

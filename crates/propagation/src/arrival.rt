@@ -9,9 +9,8 @@ use crate::copy::{Stamp, taken_in};
 use crate::destination::{destination, has_seen};
 use crate::schedules::{delayed, is_last_failure};
 use crate::sent::{Sent, sent_at};
-use exception_queues::MessageTables;
 use payload_records::{Boxed, List};
-use queue_rows::{Arrival, Cause, Change, ScheduleRow, SlotRef, TableRow, Tables};
+use queue_rows::{Arrival, Cause, Change, MessageTables, ScheduleRow, SlotRef, TableRow, Tables};
 use std::alloc::{AllocError, Global};
 
 /// How an arrival ends, and what it commits.

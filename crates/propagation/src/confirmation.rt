@@ -5,9 +5,9 @@ ghost use Rattle.queue_rows.specs.declared.change.Change.TheVariants.{Done};
 ghost use Rattle.propagation.specs.Outcomes.{confirmation_of};
 
 use crate::sent::sent_at;
-use exception_queues::{MessageTables, settle};
+use exception_queues::settle;
 use payload_records::{Boxed, Copied, List};
-use queue_rows::{Change, ScheduleRow, SlotRef};
+use queue_rows::{Change, MessageTables, ScheduleRow, SlotRef};
 use std::alloc::{AllocError, Global};
 
 // A schedule that has sent something has not failed.

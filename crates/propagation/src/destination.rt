@@ -7,9 +7,8 @@ ghost use Rattle.propagation.specs.Sent.{parcel_of};
 
 use crate::sent::Sent;
 use aq_base::NEXT_LIMIT;
-use exception_queues::{find_queue, find_table};
 use payload_records::{Field, List, RecordType};
-use queue_rows::{Cause, SlotRef, TableRow, Tables};
+use queue_rows::{Cause, SlotRef, TableRow, Tables, find_queue, find_table};
 
 /// Whether the pair of the slot stands in the seen list. It does not go over the list.
 pub(crate) fn has_seen(there: &Tables, at: &SlotRef) -> bool

@@ -4,9 +4,10 @@ ghost use Rattle.queue_rows.specs.Rows.{table_of};
 ghost use Rattle.queue_rows.specs.Propagating.{is_schedule_of, dispatch_of_slot, dispatch};
 ghost use Rattle.propagation.specs.Sent.{dispatch_by};
 
-use exception_queues::{MessageTables, find_queue, find_table};
 use payload_records::Name;
-use queue_rows::{MsgRow, ScheduleRow, SlotRef, SlotRow, TableRow, Tables};
+use queue_rows::{
+    MessageTables, MsgRow, ScheduleRow, SlotRef, SlotRow, TableRow, Tables, find_queue, find_table,
+};
 use remote_slots::goes_to;
 
 /// A slot that is sent, with its message, the message's table, and the schedule by which it goes.

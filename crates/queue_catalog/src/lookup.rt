@@ -4,9 +4,8 @@ ghost use Rattle.queue_rows.specs.Rows.{find_table, find_sub, find_schedule, is_
 ghost use Rattle.queue_rows.specs.Recipients.{has_consumers};
 ghost use Rattle.queue_rows.specs.Catalog.{has_subscribers};
 
-use exception_queues::find_table;
 use payload_records::Name;
-use queue_rows::{QueueRow, ScheduleRow, SubKey, SubRow, TableRow, Tables};
+use queue_rows::{QueueRow, ScheduleRow, SubKey, SubRow, TableRow, Tables, find_table};
 use std::alloc::AllocError;
 
 /// The name of the default exception queue of a table. Err is want of memory alone.

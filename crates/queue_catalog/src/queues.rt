@@ -8,9 +8,8 @@ ghost use Rattle.queue_catalog.specs.Judging.{Refuses};
 use crate::changes::one;
 use crate::fault::CatalogFault;
 use crate::lookup::exception_name;
-use exception_queues::{find_queue, find_table};
 use payload_records::{Boxed, Copied, List, Name};
-use queue_rows::{Change, QueueKind, QueueRow, Reply, Tables};
+use queue_rows::{Change, QueueKind, QueueRow, Reply, Tables, find_queue, find_table};
 use std::alloc::{AllocError, Global};
 
 /// What a new queue is for, and how it treats its messages.

@@ -10,9 +10,8 @@ ghost use Rattle.queue_catalog.specs.Judging.{Refuses};
 use crate::changes::one;
 use crate::fault::CatalogFault;
 use crate::lookup::{find_schedule, has_subscribers};
-use exception_queues::find_queue;
 use payload_records::{Boxed, Copied, List, Name};
-use queue_rows::{Change, Reply, ScheduleRow, Tables};
+use queue_rows::{Change, Reply, ScheduleRow, Tables, find_queue};
 use std::alloc::{AllocError, Global};
 
 /// When a schedule sends.

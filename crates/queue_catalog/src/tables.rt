@@ -10,10 +10,9 @@ ghost use Rattle.queue_catalog.specs.Judging.{Refuses};
 use crate::changes::{one, two};
 use crate::fault::CatalogFault;
 use crate::lookup::exception_name;
-use exception_queues::{find_queue, find_table};
 use payload_records::{Boxed, Copied, List, Name, RecordType};
 use place_keys::SortList;
-use queue_rows::{Change, QueueKind, QueueRow, Reply, TableRow, Tables};
+use queue_rows::{Change, QueueKind, QueueRow, Reply, TableRow, Tables, find_queue, find_table};
 use std::alloc::{AllocError, Global};
 
 fn exception_row(table: &Name) -> Result<QueueRow, AllocError>

@@ -1,10 +1,11 @@
 -- Sessions, and what they hold.
-use Rattle.std.specs.Prelude.{ℕ, ◌+◌, ◌==◌, ◌&&◌, ◌||◌, List, [], ◌∷◌, Bool, true, false, not, Option, Some, None, find, filter, fold, map, if◌then◌else◌}
+use Rattle.std.specs.Prelude.{◌≡◌, ◌⊎◌, ℕ, ◌+◌, ◌==◌, ◌&&◌, ◌||◌, List, [], ◌∷◌, Bool, true, false, not, Option, Some, None, find, filter, fold, map, slice_get, if◌then◌else◌}
 use Rattle.std.specs.List.{list_any}
 use Rattle.std.specs.Option.{option_eq, option_or}
 use Rattle.std.specs.Str.{bytes_eq}
 use Rattle.aq_base.specs.declared.DbId.{DbId}
 use Rattle.aq_base.specs.declared.DbId.TheVariants.{Home, Away}
+use Rattle.slot_marks.specs.Marks.{SessionMarks, marks_of}
 use Rattle.slot_marks.specs.declared.mark.Mark.{Mark}
 use Rattle.slot_marks.specs.declared.mark.Group.{Group}
 use Rattle.queue_rows.specs.Rows.{put_by, find_message, exception_name}
@@ -131,3 +132,8 @@ after_drop db sessions _ = sessions
 -- where these changes of the database drop queues, its sessions no longer stand in them
 unfoldable pub standing_after : DbId → List Change → List Session → List Session
 standing_after db cs sessions = fold (after_drop db) sessions cs
+
+-- the locks of a database keep the marks of its sessions under their numbers, and no others
+pub record AreMarks (db : DbId) (sessions : List Session) (locks : List SessionMarks) : Type 0 where
+  pub own : (i : ℕ) (s : Session) → slice_get sessions i ≡ Some s → s.at ≡ db → s.marks ≡ marks_of locks i
+  pub only : (i : ℕ) → (marks_of locks i ≡ []) ⊎ ((s : Session) × (slice_get sessions i ≡ Some s) × (s.at ≡ db))

@@ -6,6 +6,7 @@
 mod change;
 mod history;
 mod lanes;
+mod lookup;
 mod reply;
 mod rows;
 mod session;
@@ -16,6 +17,7 @@ mod tables;
 pub use change::{Change, Commit};
 pub use history::{Arrival, Cause, Entry, History, SessionScript, SlotRef, Step};
 pub use lanes::lane_of;
+pub use lookup::{MessageTables, find_queue, find_table};
 pub use reply::{ConditionFault, GivenMessage, LimitName, Reply, ServedAgent, Shown};
 pub use rows::{
     MsgRow, QueueKind, QueueRow, ScheduleRow, SeenRow, SlotRow, SlotState, SubKey, SubRow, TableRow,

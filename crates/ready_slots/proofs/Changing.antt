@@ -4,7 +4,7 @@ use Rattle.std.proofs.lemmas.List.Edits.{insert_end}
 use Rattle.std.specs.Prelude.{insert, remove}
 use Rattle.choice_laws.specs.Entries.{Entry, AreRising, with_message}
 use Rattle.choice_laws.proofs.Edited.{stamps_rise}
-use Rattle.message_choice.specs.Indexed.{IndexesReady}
+use Rattle.ready_slots.specs.Indexed.{IndexesReady}
 use Rattle.ready_slots.specs.Edits.{ChangedByBoth, LastPut, NothingIndexed, entry}
 use Rattle.ready_slots.proofs.Inserting.{replaced}
 

@@ -14,7 +14,7 @@ use Rattle.sort_index.specs.declared.group.Group.{Group}
 use Rattle.choice_laws.specs.EditLaws.{IsFree}
 use Rattle.choice_laws.specs.Entries.{Row, row_cmp, rows_for, shows, stands_for, with_row, without_row}
 use Rattle.choice_laws.proofs.Orders.{not_kept_itself}
-use Rattle.message_choice.specs.Indexed.{stamped}
+use Rattle.ready_slots.specs.Indexed.{stamped}
 use Rattle.ready_slots.specs.Edits.{Puts, entry}
 use Rattle.ready_slots.specs.Putting.{PutsEach, PutsNameless, PutsRow, put_where}
 use Rattle.ready_slots.specs.Shown.{is_any_offered, is_nameless, offered_to}

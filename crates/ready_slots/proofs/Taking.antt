@@ -16,7 +16,7 @@ use Rattle.sort_index.specs.declared.group.Group.{Group}
 use Rattle.choice_laws.specs.EditLaws.{IsFree}
 use Rattle.choice_laws.specs.Entries.{Row, row_cmp, rows_for, shows, without_row}
 use Rattle.choice_laws.proofs.Edited.{missing_row_is_free, rows_after_removal}
-use Rattle.message_choice.specs.Indexed.{stamped}
+use Rattle.ready_slots.specs.Indexed.{stamped}
 use Rattle.ready_slots.specs.Edits.{Removes, entry}
 use Rattle.ready_slots.specs.Shown.{is_any_offered, is_nameless, offered_to}
 use Rattle.ready_slots.specs.Taking.{TakesEach, TakesNameless, TakesRow, row_at, taken_where, told}

@@ -4,7 +4,7 @@ use Rattle.std.specs.Prelude.{◌≡◌, ℕ, List, [], ◌∷◌, ◌++◌, Som
 use Rattle.queue_rows.specs.declared.rows.MsgRow.{MsgRow}
 use Rattle.sort_index.specs.declared.group.Group.{Group}
 use Rattle.choice_laws.specs.Entries.{Entry, AreBelow, AreRising, with_message}
-use Rattle.message_choice.specs.Indexed.{IndexesReady}
+use Rattle.ready_slots.specs.Indexed.{IndexesReady}
 
 -- a message under a stamp
 abbrev pub entry : ℕ → MsgRow → Entry

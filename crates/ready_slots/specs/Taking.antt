@@ -4,7 +4,7 @@ use Rattle.queue_rows.specs.declared.rows.MsgRow.{MsgRow}
 use Rattle.sort_index.specs.Ready.{is_of, key, rows_of}
 use Rattle.sort_index.specs.declared.group.Group.{Group}
 use Rattle.choice_laws.specs.Entries.{Row, without_row}
-use Rattle.message_choice.specs.Indexed.{stamped}
+use Rattle.ready_slots.specs.Indexed.{stamped}
 use Rattle.ready_slots.specs.Shown.{is_any_offered, is_nameless}
 
 -- the rows of a queue and consumer, without their slots

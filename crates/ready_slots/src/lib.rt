@@ -4,8 +4,9 @@
 mod laws;
 mod showing;
 mod slots;
+mod stamped;
 
 pub use laws::{changed_by_both, last_put, nothing_indexed};
-pub use message_choice::StampedMessages;
 pub use showing::shown;
 pub use slots::ReadySlots;
+pub use stamped::StampedMessages;

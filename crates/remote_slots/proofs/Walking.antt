@@ -15,7 +15,7 @@ use Rattle.choice_laws.specs.Entries.{Entry, Row, AreRising, message_at, message
 use Rattle.choice_laws.specs.GoingLaws.{from_row, rows_behind}
 use Rattle.choice_laws.proofs.Going.{rows_go_on}
 use Rattle.ready_slots.specs.Indexed.{stamped}
-use Rattle.ready_slots.proofs.Walking.{hit_first, missed_first}
+use Rattle.ready_slots.proofs.Leading.{hit_first, missed_first}
 use Rattle.remote_slots.specs.Remote.{IndexesRemote, rows_to}
 use Rattle.remote_slots.specs.Searched.{first_from, rows_from, sent_first}
 use Rattle.remote_slots.proofs.Searching.{first_is_sent}

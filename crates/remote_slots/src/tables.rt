@@ -4,8 +4,7 @@ ghost use Rattle.remote_slots.specs.Few.{HasFewSlots};
 ghost use Rattle.remote_slots.specs.Searched.{sent_first};
 
 use crate::walk::least_by_walk;
-use exception_queues::MessageTables;
-use queue_rows::{MsgRow, ScheduleRow, Tables};
+use queue_rows::{MessageTables, MsgRow, ScheduleRow, Tables};
 
 /// Tables that find the message which a schedule sends.
 pub trait SendsMessages: MessageTables {

@@ -8,7 +8,7 @@ use Rattle.slot_marks.specs.Marks.{SessionMarks, marks_of, IsFreeFor}
 use Rattle.slot_marks.specs.declared.mark.Mark.{Mark}
 use Rattle.queue_rows.specs.Session.{Session}
 use Rattle.queue_rows.proofs.Sessions.{same_or_not, get_set-same, get_set-other}
-use Rattle.sessions.specs.States.{AreMarks}
+use Rattle.queue_rows.specs.Session.{AreMarks}
 use Rattle.session_registry.specs.Sessions.{changed_in, changed_at, IsFreeIn}
 use Rattle.session_registry.proofs.ShownSessions.{set_there}
 

@@ -14,7 +14,7 @@ use Rattle.queue_rows.specs.World.{fresh}
 use Rattle.queue_rows.specs.Turns.{is_live}
 use Rattle.queue_rows.specs.declared.history.SessionScript.{SessionScript}
 use Rattle.queue_rows.proofs.Sessions.{same_or_not, get_set-same, get_set-other}
-use Rattle.sessions.specs.States.{AreMarks}
+use Rattle.queue_rows.specs.Session.{AreMarks}
 use Rattle.session_registry.specs.Locks.{locks_at, marks_at, KeepsMarks, ChangesMarks, shown_from, shown}
 use Rattle.session_registry.specs.Sessions.{SessionsWithLocks, is_of, AreMarksOwned, changed_in, changed_at, unmarked}
 use Rattle.session_registry.specs.declared.locks.Locks.{Locks}

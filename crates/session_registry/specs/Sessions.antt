@@ -10,7 +10,7 @@ use Rattle.queue_rows.specs.declared.change.Change.TheVariants.{DropTable, DropQ
 use Rattle.queue_rows.specs.World.{World}
 use Rattle.queue_rows.specs.declared.session.Pending.{Pending}
 use Rattle.queue_rows.specs.declared.session.Position.{Position}
-use Rattle.sessions.specs.States.{AreMarks}
+use Rattle.queue_rows.specs.Session.{AreMarks}
 use Rattle.sessions.specs.declared.state.SessionState.{SessionState}
 use Rattle.sessions.specs.declared.state.Untold as kept
 use Rattle.session_registry.specs.Locks.{locks_at, marks_at}

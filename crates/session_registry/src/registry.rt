@@ -3,7 +3,8 @@ ghost use Rattle.std.specs.Prelude.{◌≡◌, ◌<◌, ◌^◌, ◌+◌, length
 ghost use Rattle.std.specs.List.{AllZip, list_any};
 ghost use Rattle.queue_rows.specs.World.{fresh};
 ghost use Rattle.queue_rows.specs.Turns.{is_live};
-ghost use Rattle.sessions.specs.States.{AreMarks, IsStateOf};
+ghost use Rattle.queue_rows.specs.Session.{AreMarks};
+ghost use Rattle.sessions.specs.States.{IsStateOf};
 ghost use Rattle.session_registry.specs.Sessions.{HasRoom, IsFreeIn, session_of, changed_at, with_pending, with_mark, with_released, cleared, after_call, after_park, after_reply, after_end, left_by, unmarked};
 
 use crate::locks::Locks;

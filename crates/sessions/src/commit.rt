@@ -9,10 +9,10 @@ ghost use Rattle.sessions.specs.Stamped.{changes_at};
 use crate::SessionState;
 use crate::completed::{Stamp, change_of};
 use crate::running::lower_by;
-use exception_queues::{MessageTables, settle};
+use exception_queues::settle;
 use named_list::NamedList;
 use payload_records::{Copied, List};
-use queue_rows::{Change, Pending, QueueRow, Tables};
+use queue_rows::{Change, MessageTables, Pending, QueueRow, Tables};
 use std::alloc::{AllocError, Global};
 
 fn is_addition(pending: &Pending) -> bool

@@ -7,10 +7,11 @@ ghost use Rattle.sessions.specs.Numbers.{IsAbove, IsLowest, IsAddable, IsPendabl
 ghost use Rattle.sessions.specs.Stamped.{completed_in_table, completed_for, completed_among, change_among};
 
 use crate::places::place_at_commit;
-use exception_queues::find_table;
 use named_list::NamedList;
 use payload_records::{Boxed, Copied, List, Name};
-use queue_rows::{Change, MsgRow, Pending, QueueRow, SlotRow, SlotState, TableRow, Tables};
+use queue_rows::{
+    Change, MsgRow, Pending, QueueRow, SlotRow, SlotState, TableRow, Tables, find_table,
+};
 use std::alloc::{AllocError, Global};
 
 /// The number of a commit's group, and its moment.

@@ -9,6 +9,5 @@ mod running;
 mod state;
 
 pub use commit::{changes_alone, changes_of, commit_changes};
-pub use exception_queues::MessageTables;
 pub use rollback::rollback_changes;
 pub use state::{Effect, PositionMove, SessionState, Untold, Verdict};

@@ -5,9 +5,9 @@ ghost use Rattle.sessions.specs.Numbers.{IsCountable, AreCountable, IsDelaying};
 ghost use Rattle.sessions.specs.Retries.{expiry_at, retried_at, slot_retried, retried_in, retried_for, retries_of};
 
 use crate::SessionState;
-use exception_queues::{MessageTables, find_queue, settle};
+use exception_queues::settle;
 use payload_records::List;
-use queue_rows::{Change, MsgRow, Pending, QueueRow, SlotRow, Tables};
+use queue_rows::{Change, MessageTables, MsgRow, Pending, QueueRow, SlotRow, Tables, find_queue};
 use std::alloc::AllocError;
 
 /// A slot that a session removed, and the moment at which it rolls that back.

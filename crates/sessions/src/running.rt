@@ -4,10 +4,9 @@ ghost use Rattle.std.specs.Str.{bytes_eq};
 ghost use Rattle.queue_rows.specs.Tables.{is_grouped, lowered_to};
 ghost use Rattle.sessions.specs.Running.{lowered_for, queues_after};
 
-use exception_queues::find_table;
 use payload_records::{List, Name};
 use place_keys::Place;
-use queue_rows::{Change, MsgRow, QueueRow, Tables};
+use queue_rows::{Change, MsgRow, QueueRow, Tables, find_table};
 
 fn queue_place(queues: &List<QueueRow>, name: &Name) -> Option<usize>
     ensures first { result ≡ position (λ q. bytes_eq q.name name.now) queues.now }

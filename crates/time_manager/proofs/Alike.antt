@@ -13,7 +13,7 @@ use Rattle.queue_rows.specs.declared.rows.SlotRow.{SlotRow}
 use Rattle.queue_rows.specs.declared.change.Change.{Change}
 use Rattle.queue_rows.specs.declared.history.SlotRef.{SlotRef}
 use Rattle.queue_rows.specs.World.{committed_tables}
-use Rattle.sessions.specs.States.{AreMarks}
+use Rattle.queue_rows.specs.Session.{AreMarks}
 use Rattle.valid_laws.specs.ValidLaws.{NothingDueAt}
 use Rattle.time_manager.specs.Watching.{sessions_with, IsDue, IsCalmAfter}
 use Rattle.time_manager.proofs.Held.{held-same, are_plain}

@@ -21,7 +21,7 @@ use Rattle.queue_rows.specs.declared.tables.Tables.{Tables}
 use Rattle.queue_rows.specs.declared.rows.MsgRow.{MsgRow}
 use Rattle.queue_rows.specs.declared.rows.TableRow.{TableRow}
 use Rattle.row_locks.specs.Groups.{group_asked}
-use Rattle.sessions.specs.States.{AreMarks}
+use Rattle.queue_rows.specs.Session.{AreMarks}
 use Rattle.time_manager.specs.Watching.{session_with, sessions_with, group_number}
 
 -- ---- tests

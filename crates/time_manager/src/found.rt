@@ -10,9 +10,9 @@ ghost use Rattle.time_manager.specs.Watching.{watch_of};
 use crate::purges::is_spent;
 use crate::slots::push_slots;
 use crate::watching::Watching;
-use exception_queues::{MessageTables, settle};
+use exception_queues::settle;
 use payload_records::List;
-use queue_rows::{Change, MsgRow};
+use queue_rows::{Change, MessageTables, MsgRow};
 use std::alloc::{AllocError, Global};
 
 /// What is due of the slots of some messages, which of the messages go, and what is settled besides, each in their order.

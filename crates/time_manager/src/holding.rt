@@ -8,9 +8,8 @@ ghost use Rattle.time_manager.specs.Watching.{group_number, watch_of};
 
 use crate::watching::Watching;
 use aq_base::DbId;
-use exception_queues::{find_queue, find_table};
 use payload_records::Name;
-use queue_rows::{MsgRow, SlotRef, TableRow, Tables};
+use queue_rows::{MsgRow, SlotRef, TableRow, Tables, find_queue, find_table};
 
 fn table_of<'a>(tables: &'a Tables, queue: &Name) -> Option<&'a TableRow>
     ensures { option_copied result ≡ table_of tables.now queue.now }

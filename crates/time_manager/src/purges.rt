@@ -6,8 +6,7 @@ ghost use Rattle.time_manager.specs.Watching.{watch_of};
 
 use crate::watching::Watching;
 use due_slots::{is_handled, is_taken, last_taken};
-use exception_queues::find_queue;
-use queue_rows::{MsgRow, Tables};
+use queue_rows::{MsgRow, Tables, find_queue};
 
 fn retention_of(tables: &Tables, message: &MsgRow) -> u64
     ensures { result ≡ retention_of tables.now message.now }

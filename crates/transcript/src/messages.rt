@@ -7,9 +7,8 @@ ghost use Rattle.transcript.specs.Text.{Writes};
 use crate::record::{comma_if, put_cells, put_props};
 use crate::text::{Id, Slot, name_or_null, put_json_or_null, put_number_or_null, word_of};
 use aq_base::DbId;
-use exception_queues::{find_queue, find_table};
 use payload_records::Name;
-use queue_rows::{MsgId, MsgRow, SlotRow, SlotState, TableRow, Tables};
+use queue_rows::{MsgId, MsgRow, SlotRow, SlotState, TableRow, Tables, find_queue, find_table};
 use rule_conditions::Facts;
 use std::alloc::AllocError;
 

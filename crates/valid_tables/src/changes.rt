@@ -5,9 +5,10 @@ ghost use Rattle.queue_rows.specs.Rows.{find_sub, find_schedule};
 ghost use Rattle.queue_rows.specs.Fits.{has_slot_at, is_unmoved_at, names_what_is_there};
 ghost use Rattle.queue_rows.specs.Valid.{is_same_seen};
 
-use exception_queues::{MessageTables, find_queue, find_table};
 use payload_records::Name;
-use queue_rows::{Change, ScheduleRow, SeenRow, SubKey, SubRow, Tables};
+use queue_rows::{
+    Change, MessageTables, ScheduleRow, SeenRow, SubKey, SubRow, Tables, find_queue, find_table,
+};
 
 /// The subscriber of that queue and name. It takes no memory.
 pub fn find_sub<'a>(tables: &'a Tables, queue: &Name, name: &Name) -> Option<&'a SubRow>

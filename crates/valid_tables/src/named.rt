@@ -37,11 +37,11 @@ impl NamedRows for Tables {
     }
 
     fn table(&self, name: &Name) -> Option<&TableRow> {
-        exception_queues::find_table(self, name)
+        queue_rows::find_table(self, name)
     }
 
     fn queue(&self, name: &Name) -> Option<&QueueRow> {
-        exception_queues::find_queue(self, name)
+        queue_rows::find_queue(self, name)
     }
 
     fn sub_count(&self, queue: &Name) -> usize {

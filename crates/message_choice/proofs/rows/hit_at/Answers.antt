@@ -1,6 +1,6 @@
 use Rattle.std.proofs.Common.{sym}
 use Rattle.message_choice.specs.Asking.{IsSoundFor}
-use Rattle.message_choice.proofs.Walking.{holds_at}
+use Rattle.ready_slots.proofs.Leading.{holds_at}
 use Rattle.message_choice.proofs.rows.hit_at.Goals as goal
 
 pub hit_of-requires : goal.hit_of-requires

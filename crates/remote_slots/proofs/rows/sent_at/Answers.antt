@@ -1,5 +1,5 @@
 use Rattle.std.proofs.Common.{sym}
-use Rattle.ready_slots.proofs.Walking.{holds_at}
+use Rattle.ready_slots.proofs.Leading.{holds_at}
 use Rattle.remote_slots.specs.Few.{HasFewSlots}
 use Rattle.remote_slots.proofs.rows.sent_at.Goals as goal
 

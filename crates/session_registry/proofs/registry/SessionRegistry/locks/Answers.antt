@@ -1,5 +1,5 @@
 use Rattle.std.proofs.Common.{sym, subst}
-use Rattle.sessions.specs.States.{AreMarks}
+use Rattle.queue_rows.specs.Session.{AreMarks}
 use Rattle.session_registry.specs.Locks.{locks_at}
 use Rattle.session_registry.proofs.ShownSessions.{marks_stand}
 use Rattle.session_registry.proofs.registry.SessionRegistry.locks.Goals as goal

@@ -5,7 +5,7 @@ use Rattle.slot_marks.specs.Marks.{taken, SessionMarks, spare_of, IsFreeFor}
 use Rattle.queue_rows.specs.Session.{Session}
 use Rattle.session_registry.specs.Locks.{locks_at, shown}
 use Rattle.session_registry.specs.Sessions.{session_of, HasRoom, with_mark}
-use Rattle.sessions.specs.States.{AreMarks}
+use Rattle.queue_rows.specs.Session.{AreMarks}
 use Rattle.session_registry.proofs.Results.{of_some}
 use Rattle.session_registry.proofs.ShownSessions.{marks_change, of-shown, marks_stand, nothing_changes}
 use Rattle.session_registry.proofs.registry.SessionRegistry.take.Goals as goal

@@ -3,8 +3,9 @@ ghost use Rattle.std.specs.Prelude.{◌≡◌, option_copied};
 ghost use Rattle.queue_rows.specs.Rows.{find_table, find_queue, find_message};
 ghost use Rattle.queue_rows.specs.declared.tables.Tables.{Tables};
 
+use crate::rows::{MsgRow, QueueRow, TableRow};
+use crate::tables::Tables;
 use payload_records::Name;
-use queue_rows::{MsgRow, QueueRow, TableRow, Tables};
 
 /// The queue table of that name. It takes no memory, and does not go over the tables.
 pub fn find_table<'a>(tables: &'a Tables, name: &Name) -> Option<&'a TableRow>
