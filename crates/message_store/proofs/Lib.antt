@@ -1,15 +1,5 @@
-pub mod DueLemmas
-pub mod EntryLemmas
-pub mod FindLemmas
-pub mod IndexLemmas
 pub mod LowLemmas
-pub mod MessageLemmas
-pub mod NamedLemmas
-pub mod OthersLemmas
 pub mod PlaceLemmas
 pub mod ReadyLemmas
-pub mod SlotLemmas
-pub mod StampLemmas
 pub mod StoredLemmas
-pub mod SuffixLemmas
 pub mod TakenLemmas

@@ -1,5 +1,5 @@
 -- Changes for which memory was taken can be made one after another.
-use Rattle.std.proofs.Common.{◌≡◌, ℕ, ◌<◌, ◌≤◌, All, List, [], ◌∷◌, ◌++◌, append_assoc, drop, length, Option, Some, None, refl, sym, ap, ◌∙◌, subst, arith}
+use Rattle.std.proofs.Common.{◌≡◌, ℕ, ◌<◌, ◌≤◌, All, List, [], ◌∷◌, drop, length, Option, Some, None, refl, ap, arith}
 use Rattle.std.specs.Prelude.{IfSome}
 use Rattle.std.proofs.lemmas.Bool.{eq-eqb}
 use Rattle.std.proofs.lemmas.List.Elements.{All-head, All-tail}
@@ -11,10 +11,11 @@ use Rattle.queue_rows.specs.declared.rows.MsgRow.{MsgRow}
 use Rattle.queue_rows.specs.declared.change.Change.{Change}
 use Rattle.queue_rows.specs.declared.change.Change.TheVariants as changes
 use Rattle.message_store.specs.Numbers.{HasNumbers}
-use Rattle.message_store.specs.Room.{Room, HasRoom, next_slots, room_after}
-use Rattle.message_store.specs.Prepared.{slots_added, most_slots, AddsRoom, HasSlotRooms, HasItsSlotRoom, AreReady}
+use Rattle.message_store.specs.Room.{Room, HasRoom, room_after}
+use Rattle.message_store.specs.Prepared.{HasItsSlotRoom, AreReady}
+use Rattle.message_index.specs.SlotRooms.{slots_added, most_slots, next_slots, HasSlotRooms}
 use Rattle.message_store.proofs.PlaceLemmas.{place, room_left}
-use Rattle.message_store.proofs.SlotLemmas.{one_if, slots_after, found_slots}
+use Rattle.message_index.proofs.SlotLemmas.{one_if, slots_after, found_slots}
 
 -- a message that is moved gets one slot more, and there is memory for that
 fits : (t : Tables) (id at : ℕ) (queue : List ℕ) (cs : List Change) (n : ℕ) (o : Option MsgRow) → find_message t id ≡ o
@@ -53,13 +54,3 @@ are_ready t r (c ∷ cs) numbers room slots = (
       (room_left r c cs room)
       (later_rooms t c cs cs (room_after r c).slots (rooms_left t.messages (c ∷ cs) r c cs slots)),
 )
-
--- memory for one more comes last
-pub one_more : (ms : List MsgRow) (all : List Change) (c : Change) (rest : List Change) (old new : List ℕ) → AddsRoom ms all c old new
-    → ((later : List ℕ) → HasSlotRooms ms all (c ∷ rest) later → HasSlotRooms ms all all (old ++ later))
-    → (later : List ℕ) → HasSlotRooms ms all rest later → HasSlotRooms ms all all (new ++ later)
-one_more ms all (changes.Moved id queue at) rest old new adds more later h =
-    let whole : new ++ later ≡ old ++ adds.slots ∷ later = ap (λ x. x ++ later) adds.last ∙ append_assoc old (adds.slots ∷ []) later in
-    subst (HasSlotRooms ms all all) (sym whole) (more (adds.slots ∷ later) (adds.enough, h))
-one_more ms all _ rest old new adds more later h =
-    subst (HasSlotRooms ms all all) (ap (λ x. x ++ later) (sym adds)) (more later h)

@@ -5,7 +5,7 @@ use Rattle.queue_rows.specs.Rows.{changed_first}
 use Rattle.queue_rows.specs.Tables.{lowered_to}
 use Rattle.queue_rows.specs.declared.rows.TableRow.{TableRow}
 use Rattle.queue_rows.specs.declared.rows.QueueRow.{QueueRow}
-use Rattle.message_store.specs.Rows.{Rows}
+use Rattle.open_rows.specs.Rows.{Rows}
 
 -- queues, when a message is put into the one of that name
 abbrev pub with_lowered : List TableRow → List ℤ → List ℕ → Rows QueueRow → Rows QueueRow

@@ -1,5 +1,5 @@
 -- The memory that changes need for the rows that they put.
-use Rattle.std.specs.Prelude.{ℕ, ◌-◌, ◌<◌, ◌≤◌, List, Bool, true, false, count_by, drop, slice_get, unwrap_or}
+use Rattle.std.specs.Prelude.{ℕ, ◌-◌, ◌<◌, ◌≤◌, List, Bool, true, false, count_by, drop}
 use Rattle.queue_rows.specs.declared.change.Change.{Change}
 use Rattle.queue_rows.specs.declared.change.Change.TheVariants as changes
 
@@ -45,10 +45,6 @@ pub record HasRoom (r : Room) (cs : List Change) : Type 0 where
   pub schedules : count_by is_schedule_put cs ≤ r.schedules
   pub messages : count_by is_message_put cs ≤ r.messages
   pub seen : count_by is_seen_put cs ≤ r.seen
-
--- for how many slots of the next message that is moved there is memory
-abbrev pub next_slots : List ℕ → ℕ
-next_slots slots = unwrap_or (slice_get slots 0) 0
 
 -- there is memory for the row that a change puts
 abbrev pub HasPlace : Room → Change → Type 0

@@ -4,16 +4,16 @@ ghost use Rattle.queue_rows.specs.Rows.{find_message};
 ghost use Rattle.queue_rows.specs.Tables.{without_queue, without_table, after_change, after_all, after, move_some};
 ghost use Rattle.queue_rows.specs.declared.change.Change.TheVariants as changes;
 ghost use Rattle.message_store.specs.Open.{held, room_of};
-ghost use Rattle.message_store.specs.Room.{next_slots, room_after};
+ghost use Rattle.message_index.specs.SlotRooms.{next_slots};
+ghost use Rattle.message_store.specs.Room.{room_after};
 ghost use Rattle.message_store.specs.Prepared.{HasFewerSlots, IsReady, AreReady};
 ghost use Rattle.message_store.specs.Taken.{goes_with, are_taken, TakesWhole};
 
 use crate::enqueued::{enqueue, move_message};
 use crate::open::OpenTables;
-use crate::row_room::RowRoom;
-use crate::rows::{
-    has_queue, has_table, put, put_schedule, remove_exception_queue, remove_of_queue, remove_queue,
-    remove_schedule, remove_schedules_of, remove_sub, remove_table,
+use open_rows::{
+    RowRoom, has_queue, has_table, put, put_schedule, remove_exception_queue, remove_of_queue,
+    remove_queue, remove_schedule, remove_schedules_of, remove_sub, remove_table,
 };
 use payload_records::{List, Name};
 use queue_rows::{Change, Commit, SlotRow, SlotState};

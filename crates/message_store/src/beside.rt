@@ -3,10 +3,9 @@ ghost use Rattle.std.specs.Prelude.{◌≡◌, OnOk, []};
 ghost use Rattle.message_store.specs.Beside.{room_beside};
 ghost use Rattle.message_store.specs.Room.{HasRoom};
 
-use crate::message_index::MessageIndex;
 use crate::room::{RowKind, puts_of};
-use crate::rooms::Rooms;
-use crate::row_room::RowRoom;
+use message_index::MessageIndex;
+use open_rows::{Rooms, RowRoom};
 use payload_records::List;
 use queue_rows::{Change, QueueRow, ScheduleRow, SeenRow, SlotRow, SubRow, TableRow, Tables};
 use std::alloc::{AllocError, Global};

@@ -9,10 +9,8 @@ ghost use Rattle.message_store.specs.Open.{held, room_of};
 ghost use Rattle.message_store.specs.Prepared.{HasFewerSlots};
 
 use crate::open::OpenTables;
-use crate::open_named::OpenNamed;
-use crate::row_room::RowRoom;
-use crate::rows::{has_queue, queue_place, table_row};
 use named_list::NamedList;
+use open_rows::{OpenNamed, RowRoom, has_queue, queue_place, table_row};
 use payload_records::Name;
 use place_keys::Place;
 use queue_rows::{MsgRow, QueueRow, SlotRow, TableRow, lane_of};

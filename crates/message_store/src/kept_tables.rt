@@ -3,21 +3,16 @@ ghost use Rattle.std.specs.Prelude.{◌≡◌, ◌==◌, OnOk, [], length, optio
 ghost use Rattle.choice_laws.specs.Entries.{message_at};
 ghost use Rattle.queue_rows.specs.Rows.{find_message};
 ghost use Rattle.queue_rows.specs.Tables.{empty_tables};
-ghost use Rattle.message_store.specs.Caches.{AreOf};
+ghost use Rattle.message_index.specs.Caches.{AreOf};
 ghost use Rattle.message_store.specs.Open.{held, room_of};
 ghost use Rattle.message_store.specs.Prepared.{AreReady};
-ghost use Rattle.message_store.specs.Stamped.{AreStamps, IfReady, IfRemote, entries_of};
+ghost use Rattle.message_index.specs.Stamped.{AreStamps, IfReady, IfRemote, entries_of};
 
 use crate::beside::Beside;
-use crate::caches::Caches;
-use crate::find::find;
-use crate::message_index::MessageIndex;
 use crate::numbers::check_numbers;
 use crate::open::OpenTables;
-use crate::ready_cache::ReadyCache;
-use crate::remote_cache::RemoteCache;
-use crate::slot_rooms::slot_rooms;
 use message_choice::StampedMessages;
+use message_index::{Caches, MessageIndex, ReadyCache, RemoteCache, find, slot_rooms};
 use queue_rows::{Commit, MsgRow, Tables};
 use std::alloc::{AllocError, Global};
 use std::marker::Model;
@@ -49,8 +44,8 @@ impl Model for KeptTables {
 
     ghost use Rattle.std.specs.Prelude.{◌≡◌, length};
     ghost use Rattle.message_store.specs.Beside.{room_beside};
-    ghost use Rattle.message_store.specs.Messages.{ids_of};
-    ghost use Rattle.message_store.specs.Stamped.{AreStamps};
+    ghost use Rattle.message_index.specs.Messages.{ids_of};
+    ghost use Rattle.message_index.specs.Stamped.{AreStamps};
 
     ghost view = { λ k. record {
       tables = k.tables;

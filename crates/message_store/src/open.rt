@@ -1,18 +1,14 @@
 // The tables of a database, while a commit is made.
 ghost use Rattle.std.specs.Prelude.{◌≡◌, length};
-ghost use Rattle.message_store.specs.Messages.{ids_of};
+ghost use Rattle.message_index.specs.Messages.{ids_of};
 ghost use Rattle.message_store.specs.Open.{held, room_of};
 ghost use Rattle.message_store.specs.Beside.{room_beside};
-ghost use Rattle.message_store.specs.Caches.{AreOf};
-ghost use Rattle.message_store.specs.Stamped.{AreStamps};
+ghost use Rattle.message_index.specs.Caches.{AreOf};
+ghost use Rattle.message_index.specs.Stamped.{AreStamps};
 
 use crate::beside::Beside;
-use crate::caches::Caches;
-use crate::open_messages::OpenMessages;
-use crate::open_named::OpenNamed;
-use crate::open_pairs::OpenPairs;
-use crate::open_rows::OpenRows;
-use crate::row_room::RowRoom;
+use message_index::{Caches, OpenMessages};
+use open_rows::{OpenNamed, OpenPairs, OpenRows, RowRoom};
 use queue_rows::{QueueRow, ScheduleRow, SeenRow, SlotRow, SubRow, TableRow, Tables};
 use std::alloc::Global;
 use std::collections::VecDeque;

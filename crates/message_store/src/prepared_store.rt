@@ -6,13 +6,12 @@ ghost use Rattle.queue_rows.specs.World.{committed_tables};
 ghost use Rattle.message_store.specs.Stored.{IsPreparedFor, IsCommitFor};
 
 use crate::apply::apply;
-use crate::caches::Caches;
 use crate::copies::copies_of;
-use crate::due_cache::DueCache;
 use crate::kept_tables::KeptTables;
 use due_index::DueIndex;
 use due_slots::DueTables;
 use message_choice::{Choice, ChoosesMessages, Pick, choose, choose_by_walk};
+use message_index::{Caches, DueCache};
 use payload_records::List;
 use queue_rows::{Change, Commit, MessageTables, MsgRow, ScheduleRow, Tables};
 use remote_slots::{SendsMessages, least_by_rows, least_by_walk};
@@ -51,7 +50,7 @@ impl Model for PreparedStore {
 
     ghost coded = { Prim.hlevel (codes, cond.the_row.coded) };
 
-    ghost use Rattle.message_store.specs.Caches.{AreOf};
+    ghost use Rattle.message_index.specs.Caches.{AreOf};
 
     ghost view = { λ s. record { tables = s.kept.tables; room = s.kept.room } };
 

@@ -1,5 +1,5 @@
 use Rattle.std.proofs.Common.{◌<◌, length, sym}
-use Rattle.message_store.proofs.FindLemmas.{holds_by_its_id}
+use Rattle.message_index.proofs.FoundLemmas.{holds_by_its_id}
 use Rattle.message_store.proofs.enqueued.move_message.Goals as goal
 
 pub move_to-requires : goal.move_to-requires

@@ -1,6 +1,6 @@
 use Rattle.std.proofs.Common.{sym, subst}
 use Rattle.message_store.specs.Beside.{room_beside}
-use Rattle.message_store.specs.Prepared.{HasSlotRooms}
+use Rattle.message_index.specs.SlotRooms.{HasSlotRooms}
 use Rattle.message_store.proofs.ReadyLemmas.{are_ready}
 use Rattle.message_store.proofs.kept_tables.KeptTables.prepare.Goals as goal
 

@@ -1,7 +1,7 @@
 use Rattle.std.proofs.Common.{◌==◌, ap, ◌∙◌}
 use Rattle.std.specs.Prelude.{position}
 use Rattle.message_store.specs.Kept.{Kept}
-use Rattle.message_store.proofs.MessageLemmas.{position_in_index}
+use Rattle.message_index.proofs.MessageLemmas.{position_in_index}
 use Rattle.message_store.proofs.kept_tables.KeptTables.rank_of.Goals as goal
 
 pub returns : goal.returns

@@ -1,5 +1,5 @@
 use Rattle.std.proofs.Common.{None, Some, sym, ◌∙◌}
-use Rattle.message_store.proofs.EntryLemmas.{as_long, message_is}
+use Rattle.message_index.proofs.EntryLemmas.{as_long, message_is}
 use Rattle.message_store.proofs.kept_tables.KeptTablesStampedMessages.message_at.Goals as goal
 
 pub returns-in-None : goal.returns-in-None

@@ -3,7 +3,7 @@ use Rattle.slot_marks.specs.Marks.{marks_of}
 use Rattle.queue_rows.specs.declared.rows.MsgRow.{MsgRow}
 use Rattle.message_choice.specs.Asking.{AreSound, IsLookOf}
 use Rattle.message_store.specs.Stored.{Stored}
-use Rattle.message_store.proofs.EntryLemmas.{entries_rise, messages_are}
+use Rattle.message_index.proofs.EntryLemmas.{entries_rise, messages_are}
 use Rattle.message_store.proofs.prepared_store.PreparedStoreChoosesMessages.choose.Goals as goal
 
 pub choose-requires-clause-rising : goal.choose-requires-clause-rising

@@ -3,7 +3,7 @@ use Rattle.queue_rows.specs.declared.rows.MsgRow.{MsgRow}
 use Rattle.remote_slots.specs.Few.{HasFewSlots}
 use Rattle.remote_slots.specs.Searched.{sent_first}
 use Rattle.message_store.specs.Stored.{Stored}
-use Rattle.message_store.proofs.EntryLemmas.{entries_rise, messages_are}
+use Rattle.message_index.proofs.EntryLemmas.{entries_rise, messages_are}
 use Rattle.message_store.proofs.prepared_store.PreparedStoreSendsMessages.least_to_send.Goals as goal
 
 pub least_by_rows-requires-clause-rising : goal.least_by_rows-requires-clause-rising

@@ -1,0 +1,9 @@
+pub mod DueLemmas
+pub mod EntryLemmas
+pub mod FoundLemmas
+pub mod IndexLemmas
+pub mod MessageLemmas
+pub mod OthersLemmas
+pub mod RoomLemmas
+pub mod SlotLemmas
+pub mod StampLemmas

@@ -1,0 +1,10 @@
+pub mod Caches
+pub mod DueKept
+pub mod Indexed
+pub mod Messages
+pub mod Moves
+pub mod SlotRooms
+pub mod StampOrder
+pub mod Stamped
+pub mod Stamps
+pub use Rattle.open_rows.specs.Rows

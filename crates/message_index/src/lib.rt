@@ -1,0 +1,24 @@
+//! Messages with the index of their numbers, and with the indexes of their slots and of what is due.
+#![tactic(auto)]
+
+mod added_slots;
+mod caches;
+mod due_cache;
+mod edits;
+mod entry;
+mod found;
+mod message_index;
+mod moved_rooms;
+mod open_messages;
+mod ready_cache;
+mod remote_cache;
+mod row_places;
+
+pub use caches::Caches;
+pub use due_cache::{DueCache, KeepRow};
+pub use found::find;
+pub use message_index::MessageIndex;
+pub use moved_rooms::slot_rooms;
+pub use open_messages::OpenMessages;
+pub use ready_cache::ReadyCache;
+pub use remote_cache::RemoteCache;

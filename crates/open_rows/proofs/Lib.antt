@@ -1,0 +1,3 @@
+pub mod FindLemmas
+pub mod NamedLemmas
+pub mod SuffixLemmas
