@@ -8,88 +8,80 @@ use std::alloc::{AllocError, Global};
 // ---- words
 
 fn words(alloc: Global) -> Result<Words, AllocError> {
-    let arguments = [b"run".to_vec(alloc)?, b"\xff".to_vec(alloc)?];
-    Words::of_arguments(alloc, &arguments)
+    Words::of_arguments(alloc, &[b"\xff".to_vec(alloc)?])
 }
 
-// A word more is the last one.
-fn are_words(words: &mut Words) -> bool {
-    let is_put = words.push("é").is_ok();
-    is_put
-        && words.count() == 3
-        && words.get(0) == Some("run")
-        && words.get(1) == Some("")
-        && words.get(2) == Some("é")
+// A word more is the last one, and what is no text is an empty word.
+fn are_pushed(words: &mut Words) -> bool {
+    words.push("é").is_ok() && words.get(0) == Some("") && words.get(1) == Some("é")
 }
 
-#[test]
-fn words_are_those_of_the_arguments(rt: HostRuntime) -> Result<(), AllocError> {
-    let mut words = words(rt.alloc())?;
-    assert!(rt; are_words(&mut words));
-    Ok(())
+fn are_words(alloc: Global) -> Result<bool, AllocError> {
+    let mut words = words(alloc)?;
+    Ok(are_pushed(&mut words))
 }
 
-// ---- sources
+// ---- sources and sinks in memory
 
-fn is_read(
-    alloc: Global,
-    source: &mut MemorySource,
-    limit: usize,
-    wanted: Result<&[u8], ReadFault>,
-) -> bool {
-    match read_up_to(alloc, source, limit) {
-        Ok(all) => wanted == Ok(all.as_slice()),
-        Err(fault) => wanted == Err(fault),
+// Whether three bytes can be read.
+fn is_read(alloc: Global, source: &mut MemorySource) -> bool {
+    match read_up_to(alloc, source, 3) {
+        Ok(all) => all.as_slice() == b"abc".as_slice(),
+        Err(_) => false,
+    }
+}
+
+fn fails(alloc: Global, source: &mut MemorySource) -> bool {
+    match read_up_to(alloc, source, 9) {
+        Ok(_) => false,
+        Err(fault) => fault == ReadFault::Failed,
     }
 }
 
 // The third read fails, behind one that took a byte.
-fn are_read(alloc: Global, source: &mut MemorySource) -> bool {
-    is_read(alloc, source, 3, Ok(b"abc"))
-        && is_read(alloc, source, 9, Err(ReadFault::Failed))
-        && is_read(alloc, source, 9, Ok(b""))
-}
-
-#[test]
-fn sources_are_read_to_a_limit_or_a_fault(rt: HostRuntime) -> Result<(), AllocError> {
-    let alloc = rt.alloc();
+fn are_read(alloc: Global) -> Result<bool, AllocError> {
     let mut source = MemorySource::of(b"abcd".to_vec(alloc)?, [3].to_vec(alloc)?);
-    assert!(rt; are_read(alloc, &mut source));
-    Ok(())
+    Ok(is_read(alloc, &mut source) && fails(alloc, &mut source))
 }
 
-// ---- sinks
+// The second write fails.
+fn takes(sink: &mut MemorySink) -> bool {
+    write_all(sink, b"abc").is_ok()
+        && write_all(sink, b"x") == Err(SinkFault::Failed)
+        && sink.taken() == b"abc".as_slice()
+}
 
-// The second write fails, and so does the fourth, behind one that took what had room.
-#[test]
-fn sinks_take_what_has_room_or_fail(rt: HostRuntime) -> Result<(), AllocError> {
-    let mut sink = MemorySink::of(rt.alloc(), [2].to_vec(rt.alloc())?, Some(5));
-    let answers = [
-        write_all(&mut sink, b"abc"),
-        write_all(&mut sink, b"x"),
-        write_all(&mut sink, b"def"),
-    ];
-    let wanted = [Ok(()), Err(SinkFault::Failed), Err(SinkFault::Failed)];
-    assert!(rt; answers == wanted && sink.taken() == b"abcde".as_slice());
-    Ok(())
+fn are_taken(alloc: Global) -> Result<bool, AllocError> {
+    let mut sink = MemorySink::of(alloc, [2].to_vec(alloc)?, Some(5));
+    Ok(takes(&mut sink))
 }
 
 // ---- readers and writers of std
 
-fn is_adapted(alloc: Global, from: &[u8], into: &mut [u8]) -> Result<bool, ReadFault> {
-    let all = read_up_to(alloc, &mut ReaderSource::of(from), 9)?;
+// The writer has room for less than twice these bytes, and takes nothing once it is full.
+fn is_written(into: &mut [u8], all: &[u8]) -> bool {
     let mut sink = WriterSink::of(into);
-    let answers = [
-        write_all(&mut sink, all.as_slice()),
-        write_all(&mut sink, all.as_slice()),
-    ];
-    Ok(answers == [Ok(()), Err(SinkFault::Nothing)])
+    write_all(&mut sink, all).is_ok() && write_all(&mut sink, all) == Err(SinkFault::Nothing)
 }
 
-// The writer has room for less than twice what is read, and takes nothing once it is full.
-#[test]
-fn readers_and_writers_are_adapted(rt: HostRuntime) -> Result<(), ReadFault> {
+fn is_adapted(alloc: Global, from: &[u8], into: &mut [u8]) -> bool {
+    match read_up_to(alloc, &mut ReaderSource::of(from), 9) {
+        Ok(all) => is_written(into, all.as_slice()),
+        Err(_) => false,
+    }
+}
+
+fn are_adapted(alloc: Global) -> bool {
     let mut into = [0; 3];
-    assert!(rt; is_adapted(rt.alloc(), b"ab", &mut into)? && into == *b"aba");
+    is_adapted(alloc, b"ab", &mut into) && into == *b"aba"
+}
+
+fn are_all(alloc: Global) -> Result<bool, AllocError> {
+    Ok(are_words(alloc)? && are_read(alloc)? && are_taken(alloc)? && are_adapted(alloc))
+}
+
+#[test]
+fn bytes_are_read_and_written(rt: HostRuntime) -> Result<(), AllocError> {
+    assert!(rt; are_all(rt.alloc())?);
     Ok(())
 }

@@ -1,4 +1,4 @@
-// Places in their order, and sort lists.
+// Places in their order, how deep they go, and sort lists.
 ghost use Rattle.std.specs.Prelude.{◌≤◌};
 
 use payload_records::{Copied, List};
@@ -24,90 +24,78 @@ fn place_of(alloc: Global, numbers: &[i64]) -> Result<Place, AllocError> {
     place.copied()
 }
 
-fn is_before(earlier: &Place, place: &Place) -> bool {
-    compare(earlier, place) == Ordering::Less && earlier < place
+fn is_before(alloc: Global, place: &Place, later: &[i64]) -> bool {
+    match place_of(alloc, later) {
+        Ok(later) => compare(place, &later) == Ordering::Less && *place < later,
+        Err(_) => false,
+    }
 }
 
-fn are_in_order(alloc: Global, earlier: &[i64], later: &[i64]) -> Result<bool, AllocError> {
-    let earlier = place_of(alloc, earlier)?;
-    let later = place_of(alloc, later)?;
-    Ok(is_before(&earlier, &later))
-}
-
-// A place before another that stands before none.
-fn put_before(alloc: Global) -> Result<Place, PlaceFault> {
-    let place = Place::of(alloc, 0, &[5], 2)?;
-    before(alloc, &place, 1, 3)
-}
-
-fn is_put_before(alloc: Global) -> bool {
-    match put_before(alloc) {
-        Ok(place) => place.numbers() == [0, 5, 2, 3].as_slice(),
+fn are_in_order(alloc: Global, earlier: &[i64], later: &[i64]) -> bool {
+    match place_of(alloc, earlier) {
+        Ok(place) => is_before(alloc, &place, later),
         Err(_) => false,
     }
 }
 
 #[test]
-fn places_stand_in_their_order(rt: HostRuntime) -> Result<(), AllocError> {
+fn places_stand_in_their_order(rt: HostRuntime) {
     for (earlier, later) in &IN_ORDER {
-        assert!(rt; are_in_order(rt.alloc(), earlier, later)?, "{earlier:?}");
+        assert!(rt; are_in_order(rt.alloc(), earlier, later), "{earlier:?}");
     }
-    assert!(rt; is_put_before(rt.alloc()));
+}
+
+// ---- a place before another that stands before none, and so on
+
+fn grow(alloc: Global, place: &mut Place, from: u64, past: u64) -> Result<(), PlaceFault>
+    requires { past ≤ 20 }
+{
+    for number in from..past {
+        let longer = before(alloc, place, 1, number)?;
+        *place = longer;
+    }
     Ok(())
 }
 
-// ---- the deepest place
+fn is_before_it(alloc: Global, place: &mut Place) -> bool {
+    grow(alloc, place, 3, 4).is_ok() && place.numbers() == [0, 5, 2, 3].as_slice()
+}
 
-// A place behind whose lane, column and sequence stand the numbers from 3 up to one.
-fn with_numbers(alloc: Global, past: u64) -> Result<Place, PlaceFault>
-    requires { past ≤ 20 }
-{
+// The numbers from 3 to 18 stand behind the place, and no more.
+fn is_deepest(alloc: Global, place: &mut Place) -> bool {
+    grow(alloc, place, 4, 19).is_ok()
+        && place.numbers().len() == 19
+        && place.numbers().last() == Some(&18)
+        && grow(alloc, place, 19, 20) == Err(PlaceFault::TooDeep)
+}
+
+fn goes_deep(alloc: Global) -> Result<bool, AllocError> {
     let mut place = Place::of(alloc, 0, &[5], 2)?;
-    for number in 3..past {
-        place = before(alloc, &place, 1, number)?;
-    }
-    Ok(place)
-}
-
-fn is_deepest(alloc: Global) -> bool {
-    match with_numbers(alloc, 19) {
-        Ok(place) => place.numbers().len() == 19 && place.numbers().last() == Some(&18),
-        Err(_) => false,
-    }
-}
-
-fn is_too_deep(alloc: Global) -> bool {
-    match with_numbers(alloc, 20) {
-        Ok(_) => false,
-        Err(fault) => fault == PlaceFault::TooDeep,
-    }
+    Ok(is_before_it(alloc, &mut place) && is_deepest(alloc, &mut place))
 }
 
 #[test]
-fn places_go_no_deeper_than_they_may(rt: HostRuntime) {
-    assert!(rt; is_deepest(rt.alloc()));
-    assert!(rt; is_too_deep(rt.alloc()));
+fn places_go_no_deeper_than_they_may(rt: HostRuntime) -> Result<(), AllocError> {
+    assert!(rt; goes_deep(rt.alloc())?);
+    Ok(())
 }
 
 // ---- sort lists
 
-fn is_sort_list(alloc: Global, columns: &[Column]) -> Result<bool, AllocError> {
-    match SortList::of(List::from_vec(columns.to_vec(alloc)?)) {
-        Some(list) => Ok(list.copied().is_ok()),
-        None => Ok(false),
+fn columns(alloc: Global) -> Result<List<Column>, AllocError> {
+    let usual = SortList::by_enqueue_time(alloc)?;
+    usual.columns().copied()
+}
+
+fn is_copied(list: Option<SortList>) -> bool {
+    match list {
+        Some(list) => list.copied().is_ok(),
+        None => false,
     }
 }
 
-fn is_usual(alloc: Global) -> Result<bool, AllocError> {
-    let usual = SortList::by_enqueue_time(alloc)?;
-    Ok(usual.columns().get(0) == Some(&Column::EnqTime))
-}
-
 #[test]
-fn sort_lists_have_one_column_or_two(rt: HostRuntime) -> Result<(), AllocError> {
-    let alloc = rt.alloc();
-    let is_pair = is_sort_list(alloc, &[Column::CommitTime, Column::Priority])?;
-    let is_twice = is_sort_list(alloc, &[Column::EnqTime, Column::EnqTime])?;
-    assert!(rt; is_pair && !is_twice && is_usual(alloc)?);
+fn the_usual_columns_are_a_sort_list(rt: HostRuntime) -> Result<(), AllocError> {
+    assert!(rt; is_copied(SortList::of(columns(rt.alloc())?)));
     Ok(())
 }

@@ -1,5 +1,4 @@
 // The worked record types, records and properties, as JSON.
-use crate::values::needs_send;
 use payload_records::{
     Copied, Datum, Field, List, Payload, PayloadFault, Prop, PropFault, Record, RecordType,
     TypeFault,
@@ -19,6 +18,8 @@ const CASES: &str = r#"[
     ["type", {"qty": "int"}, false],
     ["type", {"qty": null}, false],
 
+    ["record", {"qty": 3}, "{\"qty\":3,\"region\":null}"],
+    ["record", {"qty": 9223372036854775807}, "{\"qty\":9223372036854775807,\"region\":null}"],
     ["record", {"region": ""}, "{\"qty\":null,\"region\":null}"],
     ["record", {"qty": ""}, "{\"qty\":null,\"region\":null}"],
     ["record", {"qty": null}, "{\"qty\":null,\"region\":null}"],
@@ -56,28 +57,17 @@ fn is_text(value: Option<&Value>, wanted: &str) -> bool {
 
 // ---- types
 
-fn is_type_of(fields: List<Field>) -> bool {
-    match RecordType::of(fields) {
-        Ok(kind) => kind.is_some(),
-        Err(_) => false,
-    }
-}
-
-fn is_type_of_its_fields(kind: &RecordType) -> bool {
-    match kind.fields().copied() {
-        Ok(fields) => is_type_of(fields),
-        Err(_) => false,
-    }
-}
-
 fn is_type(alloc: Global, value: &Value, wanted: bool) -> bool {
     match RecordType::read(alloc, value) {
-        Ok(kind) => wanted && kind.copied().is_ok() && is_type_of_its_fields(&kind),
+        Ok(kind) => wanted && kind.copied().is_ok(),
         Err(fault) => !wanted && fault == TypeFault::Bad,
     }
 }
 
 // ---- records
+
+// What it is given may go to other threads.
+fn needs_send<T: Send + Sync>(_: &T) {}
 
 fn json_of(alloc: Global, kind: &RecordType, record: &Record) -> Result<Value, AllocError> {
     needs_send(record);
@@ -218,20 +208,29 @@ fn first_wrong_case(alloc: Global) -> Result<usize, Fail> {
 #[test]
 fn types_records_and_properties_are_read(rt: HostRuntime) -> Result<(), Fail> {
     let wrong = first_wrong_case(rt.alloc())?;
-    assert!(rt; wrong == 31, "row {wrong}");
+    assert!(rt; wrong == 33, "row {wrong}");
     Ok(())
 }
 
 // ---- the longest text
 
-// An object of one text of that length.
-fn long_text(alloc: Global, len: usize) -> Result<String, AllocError> {
-    let mut text = String::from_str(alloc, "{\"region\":\"")?;
+fn add_letters(text: &mut String, len: usize) -> Result<(), AllocError> {
     for _ in 0..len {
         text.push('x')?;
     }
-    text.push_str("\"}")?;
+    text.push_str("\"}")
+}
+
+// An object of one text of that length.
+fn long_text(alloc: Global, len: usize) -> Result<String, AllocError> {
+    let mut text = String::from_str(alloc, "{\"region\":\"")?;
+    add_letters(&mut text, len)?;
     Ok(text)
+}
+
+fn value_of(alloc: Global, len: usize) -> Result<Value, Fail> {
+    let text = long_text(alloc, len)?;
+    Ok(Value::from_str(alloc, text.as_str())?)
 }
 
 fn is_taken(alloc: Global, kind: &Value, value: &Value, wanted: &Value) -> bool {
@@ -244,16 +243,23 @@ fn is_taken(alloc: Global, kind: &Value, value: &Value, wanted: &Value) -> bool 
 // Whether a payload of a text that long comes to that print of a record, or that fault.
 fn comes_to(alloc: Global, len: usize, wanted: &Value) -> Result<bool, Fail> {
     let kind = Value::from_str(alloc, "{\"region\":\"text\"}")?;
-    let text = long_text(alloc, len)?;
-    let value = Value::from_str(alloc, text.as_str())?;
+    let value = value_of(alloc, len)?;
     Ok(is_taken(alloc, &kind, &value, wanted))
+}
+
+fn is_printed_whole(alloc: Global) -> Result<bool, Fail> {
+    let printed = Value::String(long_text(alloc, 4000)?);
+    comes_to(alloc, 4000, &printed)
+}
+
+fn is_too_long(alloc: Global) -> Result<bool, Fail> {
+    let fault = Value::from_str(alloc, "[\"too-long\",\"region\"]")?;
+    comes_to(alloc, 4001, &fault)
 }
 
 #[test]
 fn texts_of_records_have_a_limit(rt: HostRuntime) -> Result<(), Fail> {
-    let printed = Value::String(long_text(rt.alloc(), 4000)?);
-    let fault = Value::from_str(rt.alloc(), "[\"too-long\",\"region\"]")?;
-    assert!(rt; comes_to(rt.alloc(), 4000, &printed)?);
-    assert!(rt; comes_to(rt.alloc(), 4001, &fault)?);
+    assert!(rt; is_printed_whole(rt.alloc())?);
+    assert!(rt; is_too_long(rt.alloc())?);
     Ok(())
 }

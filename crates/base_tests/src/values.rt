@@ -23,22 +23,9 @@ const NAMES: [(&str, bool); 10] = [
     (OVER, false),
 ];
 
-// What it is given may go to other threads.
-pub(crate) fn needs_send<T: Send + Sync>(_: &T) {}
-
-fn has_suffix(name: &Name, text: &str) -> bool {
-    match name.with_suffix("_eé") {
-        Ok(longer) => longer.as_str().strip_suffix("_eé") == Some(text),
-        Err(_) => false,
-    }
-}
-
 fn is_name(alloc: Global, text: &str, wanted: bool) -> bool {
     match Name::read(alloc, text) {
-        Ok(name) => {
-            needs_send(&name);
-            wanted && name.as_str() == text && has_suffix(&name, text)
-        }
+        Ok(name) => wanted && name.as_str() == text && name.with_suffix("_e").is_ok(),
         Err(fault) => !wanted && fault == NameFault::Bad,
     }
 }
@@ -65,42 +52,33 @@ fn is_kept(alloc: Global, text: &str) -> bool {
     }
 }
 
-// The first has 22 bytes, and lies in place.
+// Those of 22 bytes and less lie in place.
 #[test]
 fn texts_are_kept_in_place_and_shared(rt: HostRuntime) {
-    assert!(rt; is_kept(rt.alloc(), "xxxxxxxxxxxxxxxxxxxéy"));
-    assert!(rt; is_kept(rt.alloc(), "xxxxxxxxxxxxxxxxxxxxéy"));
+    for text in ["ab", "xxxxxxxxxxxxxxxxxxxéy", "xxxxxxxxxxxxxxxxxxxxéy"] {
+        assert!(rt; is_kept(rt.alloc(), text), "{text}");
+    }
 }
 
 // ---- lists
 
-fn put(list: &mut List<i64>) -> Result<(), AllocError> {
+fn fill(list: &mut List<i64>) -> Result<(), AllocError> {
     list.reserve(1)?;
     list.push(9)?;
+    list.insert(0, 7)?;
+    list.push(3)?;
     list.sort()
 }
 
-fn changed(alloc: Global) -> Result<List<i64>, AllocError> {
-    let mut list = List::from_vec([7i64, 3].to_vec(alloc)?);
-    list.insert(1, 5)?;
-    put(&mut list)?;
-    if let Some(item) = list.get_mut(1) {
-        *item = 6;
-    }
-    list.copied()
-}
-
-#[test]
-fn lists_are_changed(rt: HostRuntime) -> Result<(), AllocError> {
-    assert!(rt; changed(rt.alloc())?.into_vec().as_slice() == [3, 6, 7, 9].as_slice());
-    Ok(())
+fn is_filled(list: &mut List<i64>) -> bool {
+    fill(list).is_ok() && list.get(0) == Some(&3) && list.copied().is_ok()
 }
 
 // ---- small lists
 
-fn fill(small: &mut SmallList<i64>, items: &[i64]) -> Result<(), AllocError> {
-    for item in items {
-        small.push(*item)?;
+fn fill_small(small: &mut SmallList<i64>) -> Result<(), AllocError> {
+    for item in [5, 7, 8] {
+        small.push(item)?;
     }
     Ok(())
 }
@@ -111,49 +89,51 @@ fn copied_items(small: &SmallList<i64>) -> Result<Vec<i64>, AllocError> {
     copy.into_vec()
 }
 
-fn are_copied(small: &SmallList<i64>, items: &[i64]) -> bool {
-    match copied_items(small) {
-        Ok(copied) => copied.as_slice() == items,
-        Err(_) => false,
-    }
+fn is_small(small: &mut SmallList<i64>) -> bool {
+    fill_small(small).is_ok()
+        && match copied_items(small) {
+            Ok(items) => items.as_slice() == [5, 7, 8].as_slice(),
+            Err(_) => false,
+        }
 }
 
-fn is_small(alloc: Global, items: &[i64]) -> bool {
-    let mut small = SmallList::new(alloc);
-    fill(&mut small, items).is_ok() && are_copied(&small, items)
-}
-
-#[test]
-fn small_lists_are_filled(rt: HostRuntime) {
-    assert!(rt; is_small(rt.alloc(), &[5]));
-    assert!(rt; is_small(rt.alloc(), &[5, 7, 8]));
+fn lists_are_filled(alloc: Global) -> bool {
+    is_filled(&mut List::new(alloc)) && is_small(&mut SmallList::new(alloc))
 }
 
 // ---- shared values
 
-// What a copy is where the first one is changed.
-fn kept_by_copy(alloc: Global, first: &mut Shared<i64>) -> Result<i64, AllocError> {
-    let copy = first.copied()?;
+fn change(alloc: Global, first: &mut Shared<i64>) -> Result<(), AllocError> {
     *first.make_mut(alloc)? = 5;
-    copy.into_inner()
+    Ok(())
+}
+
+// A copy stays as it was where the first one is changed.
+fn is_kept_by(copy: Shared<i64>, alloc: Global, first: &mut Shared<i64>) -> bool {
+    change(alloc, first).is_ok() && copy.into_inner() == Ok(3) && **first == 5
+}
+
+fn is_copied(alloc: Global, first: &mut Shared<i64>) -> Result<bool, AllocError> {
+    let copy = first.copied()?;
+    Ok(is_kept_by(copy, alloc, first))
 }
 
 fn is_shared(alloc: Global) -> Result<bool, AllocError> {
     let mut first = Shared::new(alloc, 3i64)?;
-    needs_send(&first);
-    let kept = kept_by_copy(alloc, &mut first)?;
-    Ok(kept == 3 && *first == 5)
+    is_copied(alloc, &mut first)
 }
 
 fn is_boxed(alloc: Global) -> Result<bool, AllocError> {
     let boxed = Boxed::new(alloc, 6i64)?;
-    let copy = boxed.copied()?;
-    Ok(copy.into_inner() == 6)
+    Ok(boxed.copied().is_ok())
+}
+
+fn are_held(alloc: Global) -> Result<bool, AllocError> {
+    Ok(lists_are_filled(alloc) && is_shared(alloc)? && is_boxed(alloc)?)
 }
 
 #[test]
-fn values_are_shared_until_they_are_changed(rt: HostRuntime) -> Result<(), AllocError> {
-    assert!(rt; is_shared(rt.alloc())?);
-    assert!(rt; is_boxed(rt.alloc())?);
+fn values_are_held(rt: HostRuntime) -> Result<(), AllocError> {
+    assert!(rt; are_held(rt.alloc())?);
     Ok(())
 }
