@@ -1,12 +1,11 @@
 // Patterns, the truth of conditions, and what is wrong with them, each edge on both sides.
 use payload_records::{
-    Copied, Datum, Field, Kind, List, Name, Prop, Record, RecordType, Shared, Text,
+    Copied, Datum, Field, Kind, List, Name, NameFault, Prop, Record, RecordType, Shared, Text,
 };
 use rule_conditions::{Cond, CondFault, Facts, Truth, check, like, truth};
 use rule_text::read;
 use std::alloc::{AllocError, Global};
 use std::process::Abort;
-use std::test::Fail;
 
 // ---- patterns
 
@@ -36,16 +35,31 @@ fn patterns_match(rt: HostRuntime) {
     check_patterns(&rt, &PATTERNS);
 }
 
-// ---- a type of one field, and facts
+// ---- a type of one field
 
-/// The type qty num.
-fn kind(alloc: Global) -> Result<RecordType, Fail> {
+fn add_field(alloc: Global, fields: &mut List<Field>) -> Result<(), NameFault> {
     let name = Name::read(alloc, "qty")?;
     let kind = Kind::Num;
-    let mut fields = List::new(alloc);
-    fields.push(Field { name, kind })?;
-    Ok(RecordType::of(fields)?.ok_or("no type")?)
+    Ok(fields.push(Field { name, kind })?)
 }
+
+fn kind_of(fields: List<Field>) -> Option<RecordType> {
+    match RecordType::of(fields) {
+        Ok(kind) => kind,
+        Err(_) => None,
+    }
+}
+
+/// The type qty num.
+fn kind(alloc: Global) -> Option<RecordType> {
+    let mut fields = List::new(alloc);
+    match add_field(alloc, &mut fields) {
+        Ok(()) => kind_of(fields),
+        Err(_) => None,
+    }
+}
+
+// ---- facts: a number, a correlation, and the properties lvl, which is 2, and zone, which is n
 
 fn datum(qty: Option<i64>) -> Datum {
     match qty {
@@ -68,7 +82,23 @@ fn corr(alloc: Global, corr: Option<&str>) -> Result<Option<Text>, AllocError> {
     }
 }
 
-fn facts_of(cells: Record, corr: Option<Text>, props: List<Prop>) -> Facts {
+fn add_prop(
+    props: &mut List<Prop>,
+    alloc: Global,
+    text: &str,
+    value: Datum,
+) -> Result<(), NameFault> {
+    let name = Name::read(alloc, text)?;
+    Ok(props.push(Prop { name, value })?)
+}
+
+fn add_props(props: &mut List<Prop>, alloc: Global) -> Result<(), NameFault> {
+    add_prop(props, alloc, "lvl", Datum::Num(2))?;
+    let zone = Text::of(alloc, "n")?;
+    add_prop(props, alloc, "zone", Datum::Text(zone))
+}
+
+fn facts_of(corr: Option<Text>, cells: Record, props: List<Prop>) -> Facts {
     Facts {
         priority: 1,
         corr,
@@ -80,18 +110,14 @@ fn facts_of(cells: Record, corr: Option<Text>, props: List<Prop>) -> Facts {
 fn facts(alloc: Global, qty: Option<i64>, text: Option<&str>) -> Result<Facts, AllocError> {
     let cells = cells(alloc, qty)?;
     let corr = corr(alloc, text)?;
-    Ok(facts_of(cells, corr, List::new(alloc)))
+    Ok(facts_of(corr, cells, List::new(alloc)))
 }
 
-fn is_of(
-    alloc: Global,
-    text: &str,
-    facts: &Facts,
-    kind: &RecordType,
-    wanted: Truth,
-) -> Result<bool, Fail> {
-    let condition = read(alloc, text)?;
-    Ok(truth(&condition, facts, kind) == wanted)
+// A copy of the facts, with those properties.
+fn whole_facts(alloc: Global, qty: Option<i64>, text: Option<&str>) -> Result<Facts, NameFault> {
+    let mut facts = facts(alloc, qty, text)?;
+    add_props(&mut facts.props, alloc)?;
+    Ok(facts.copied()?)
 }
 
 // ---- truths: the condition, the number, the correlation, and what it is of them
@@ -102,7 +128,9 @@ const EITHER: &str = "tab.user_data.qty > 10 or tab.corrid like 'a_%'";
 
 const SAME: &str = "not tab.user_data.qty = tab.user_data.qty";
 
-const TRUTHS: [Case; 14] = [
+const ZONE: &str = "tab.user_prop.zone = 'n' and tab.user_prop.lvl > 1";
+
+const TRUTHS: [Case; 20] = [
     (EITHER, None, Some("ab"), Truth::True),
     (EITHER, None, Some("a"), Truth::Unknown),
     (EITHER, None, Some(""), Truth::Unknown),
@@ -117,63 +145,64 @@ const TRUTHS: [Case; 14] = [
     ("tab.corrid is not null", None, Some("a"), Truth::True),
     ("tab.corrid not like ''", None, Some("ab"), Truth::Unknown),
     ("tab.corrid not like 'a%'", None, Some("ab"), Truth::False),
+    (ZONE, None, None, Truth::True),
+    ("tab.user_prop.lvl = 'x'", None, None, Truth::Unknown),
+    ("tab.user_prop.lvl like '2'", None, None, Truth::Unknown),
+    ("tab.user_prop.none is null", None, None, Truth::True),
+    ("tab.user_prop.zone + 1 is null", None, None, Truth::True),
+    ("tab.priority = 1", Some(1), Some("a"), Truth::True),
 ];
 
-fn is_told(alloc: Global, kind: &RecordType, case: &Case) -> Result<bool, Fail> {
-    let facts = facts(alloc, case.1, case.2)?;
-    is_of(alloc, case.0, &facts, kind, case.3)
-}
-
-fn check_truths(rt: &impl Abort, alloc: Global, cases: &[Case]) -> Result<(), Fail> {
-    let kind = kind(alloc)?;
-    for case in cases {
-        assert!(rt; is_told(alloc, &kind, case)?, "{}", case.0);
+// Whether a copy of the condition is that of the facts.
+fn is_of(alloc: Global, kind: &RecordType, facts: &Facts, case: &Case) -> bool {
+    match condition_of(alloc, case.0) {
+        Some(condition) => truth(&condition, facts, kind) == case.3,
+        None => false,
     }
-    Ok(())
 }
 
-#[test]
-fn truths_are_told(rt: HostRuntime) -> Result<(), Fail> {
-    check_truths(&rt, rt.alloc(), &TRUTHS)
+fn copied(condition: &Cond) -> Option<Cond> {
+    match condition.copied() {
+        Ok(condition) => Some(condition),
+        Err(_) => None,
+    }
 }
 
-// ---- copies
-
-fn copied_facts(alloc: Global) -> Result<Facts, AllocError> {
-    let facts = facts(alloc, Some(11), Some("ab"))?;
-    facts.copied()
+fn condition_of(alloc: Global, text: &str) -> Option<Cond> {
+    match read(alloc, text) {
+        Ok(condition) => copied(&condition),
+        Err(_) => None,
+    }
 }
 
-const COPIED: &str = "tab.user_data.qty > 10 and tab.corrid like 'a_'";
-
-fn copied(alloc: Global, text: &str) -> Result<Cond, Fail> {
-    let condition = read(alloc, text)?;
-    Ok(condition.copied()?)
+fn is_told(alloc: Global, kind: &RecordType, case: &Case) -> bool {
+    match whole_facts(alloc, case.1, case.2) {
+        Ok(facts) => is_of(alloc, kind, &facts, case),
+        Err(_) => false,
+    }
 }
 
-fn is_copy_true(alloc: Global, text: &str, facts: &Facts, kind: &RecordType) -> Result<bool, Fail> {
-    let condition = copied(alloc, text)?;
-    Ok(truth(&condition, facts, kind) == Truth::True)
-}
-
-#[test]
-fn copies_are_made(rt: HostRuntime) -> Result<(), Fail> {
-    let kind = kind(rt.alloc())?;
-    let facts = copied_facts(rt.alloc())?;
-    assert!(rt; is_copy_true(rt.alloc(), COPIED, &facts, &kind)?);
-    Ok(())
+fn check_truths(rt: &impl Abort, alloc: Global, kind: &RecordType, cases: &[Case]) {
+    for case in cases {
+        assert!(rt; is_told(alloc, kind, case), "{}", case.0);
+    }
 }
 
 // ---- faults: the name of a field that is not there, or that kinds do not fit; no text where there is none
 
-const FAULTS: [(&str, &str); 7] = [
+const FAULTS: [(&str, &str); 12] = [
     ("tab.user_data.x = 1", "x"),
     ("tab.user_data.qty = tab.user_data.x", "x"),
     ("tab.corrid = 1", "KIND"),
     ("tab.priority like '1'", "KIND"),
     ("tab.corrid * tab.user_data.x is null", "KIND"),
     ("null = tab.corrid", ""),
-    ("tab.user_data.qty > 10 or tab.corrid like 'a_%'", ""),
+    (EITHER, ""),
+    (ZONE, ""),
+    ("tab.user_prop.lvl = 'x'", ""),
+    ("tab.user_prop.lvl like '2'", ""),
+    ("tab.user_prop.none is null", ""),
+    ("tab.user_prop.zone + 1 is null", ""),
 ];
 
 fn told(found: &Result<(), CondFault>) -> &str {
@@ -185,65 +214,37 @@ fn told(found: &Result<(), CondFault>) -> &str {
     }
 }
 
-fn has_fault(alloc: Global, kind: &RecordType, text: &str, wanted: &str) -> Result<bool, Fail> {
-    let condition = read(alloc, text)?;
-    let found = check(&condition, kind);
-    Ok(told(&found) == wanted)
+fn tells(condition: &Cond, kind: &RecordType, wanted: &str) -> bool {
+    let found = check(condition, kind);
+    told(&found) == wanted
+}
+
+fn has_fault(alloc: Global, kind: &RecordType, text: &str, wanted: &str) -> bool {
+    match read(alloc, text) {
+        Ok(condition) => tells(&condition, kind, wanted),
+        Err(_) => false,
+    }
+}
+
+fn check_faults(rt: &impl Abort, alloc: Global, kind: &RecordType, rows: &[(&str, &str)]) {
+    for (text, wanted) in rows {
+        assert!(rt; has_fault(alloc, kind, text, wanted), "{text}");
+    }
+}
+
+fn check_all(rt: &impl Abort, alloc: Global, kind: &RecordType) {
+    check_truths(rt, alloc, kind, &TRUTHS);
+    check_faults(rt, alloc, kind, &FAULTS);
+}
+
+fn check_by(rt: &impl Abort, alloc: Global, kind: Option<RecordType>) {
+    match kind {
+        Some(kind) => check_all(rt, alloc, &kind),
+        None => assert!(rt; false, "no type"),
+    }
 }
 
 #[test]
-fn faults_are_told(rt: HostRuntime) -> Result<(), Fail> {
-    let kind = kind(rt.alloc())?;
-    for (text, wanted) in FAULTS {
-        assert!(rt; has_fault(rt.alloc(), &kind, text, wanted)?, "{text}");
-    }
-    Ok(())
-}
-
-// ---- properties: lvl is 2 and zone is n
-
-const OF_PROPERTIES: [(&str, Truth); 5] = [
-    (
-        "tab.user_prop.zone = 'n' and tab.user_prop.lvl > 1",
-        Truth::True,
-    ),
-    ("tab.user_prop.lvl = 'x'", Truth::Unknown),
-    ("tab.user_prop.lvl like '2'", Truth::Unknown),
-    ("tab.user_prop.none is null", Truth::True),
-    ("tab.user_prop.zone + 1 is null", Truth::True),
-];
-
-fn add_prop(props: &mut List<Prop>, alloc: Global, text: &str, value: Datum) -> Result<(), Fail> {
-    let name = Name::read(alloc, text)?;
-    props.push(Prop { name, value })?;
-    Ok(())
-}
-
-fn add_props(props: &mut List<Prop>, alloc: Global) -> Result<(), Fail> {
-    add_prop(props, alloc, "lvl", Datum::Num(2))?;
-    let zone = Text::of(alloc, "n")?;
-    add_prop(props, alloc, "zone", Datum::Text(zone))
-}
-
-fn props(alloc: Global) -> Result<List<Prop>, Fail> {
-    let mut props = List::new(alloc);
-    add_props(&mut props, alloc)?;
-    Ok(props)
-}
-
-fn with_props(alloc: Global) -> Result<Facts, Fail> {
-    let cells = cells(alloc, None)?;
-    let props = props(alloc)?;
-    Ok(facts_of(cells, None, props))
-}
-
-#[test]
-fn properties_are_asked(rt: HostRuntime) -> Result<(), Fail> {
-    let kind = kind(rt.alloc())?;
-    let facts = with_props(rt.alloc())?;
-    for (text, wanted) in OF_PROPERTIES {
-        assert!(rt; has_fault(rt.alloc(), &kind, text, "")?, "{text}");
-        assert!(rt; is_of(rt.alloc(), text, &facts, &kind, wanted)?, "{text}");
-    }
-    Ok(())
+fn truths_and_faults_are_told(rt: HostRuntime) {
+    check_by(&rt, rt.alloc(), kind(rt.alloc()));
 }

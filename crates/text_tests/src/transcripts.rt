@@ -1,23 +1,14 @@
 // What is printed of replies and steps that no script brings about, or none that is short. The transcripts show the rest.
 use aq_base::DbId;
-use payload_records::{Boxed, List, Name, Shared};
+use payload_records::{Boxed, List, Name, NameFault, Shared};
 use queue_rows::{
     Arrival, Cause, Entry, History, LimitName, Reply, SessionScript, SlotRef, Statement, Step,
     Tables,
 };
 use std::alloc::{AllocError, Global};
-use std::process::Abort;
-use std::test::Fail;
 use transcript::print;
 
-// ---- a history of one session, to which each test adds the entries of one part
-
-#[derive(Clone, Copy)]
-enum Part {
-    Replies,
-    Propagated,
-    Untold,
-}
+// ---- a history of one session
 
 /// A history in which nothing was asked or done.
 fn empty(alloc: Global) -> History {
@@ -39,19 +30,21 @@ fn session(alloc: Global, name: Name) -> SessionScript {
 }
 
 /// The session s1, which asks a commit and a rollback.
-fn add_session(scripts: &mut List<SessionScript>, alloc: Global) -> Result<(), Fail> {
+fn add_session(scripts: &mut List<SessionScript>, alloc: Global) -> Result<(), NameFault> {
     let name = Name::read(alloc, "s1")?;
     scripts.push(session(alloc, name))?;
     match scripts.get_mut(0) {
-        Some(script) => add_statements(alloc, &mut script.statements),
+        Some(script) => Ok(add_statements(alloc, &mut script.statements)?),
         None => Ok(()),
     }
 }
 
-fn add_statements(alloc: Global, statements: &mut List<Shared<Statement>>) -> Result<(), Fail> {
+fn add_statements(
+    alloc: Global,
+    statements: &mut List<Shared<Statement>>,
+) -> Result<(), AllocError> {
     statements.push(Shared::new(alloc, Statement::Commit)?)?;
-    statements.push(Shared::new(alloc, Statement::Rollback)?)?;
-    Ok(())
+    statements.push(Shared::new(alloc, Statement::Rollback)?)
 }
 
 fn entry(alloc: Global, actor: u32, step: Step) -> Entry {
@@ -71,82 +64,41 @@ fn add(entries: &mut List<Entry>, alloc: Global, actor: u32, step: Step) -> Resu
     entries.push(entry(alloc, actor, step))
 }
 
-fn add_part(entries: &mut List<Entry>, alloc: Global, part: Part) -> Result<(), Fail> {
-    match part {
-        Part::Replies => add_replies(entries, alloc),
-        Part::Propagated => add_propagated(entries, alloc),
-        Part::Untold => add_untold(entries, alloc),
-    }
+// ---- steps of sessions: only a call that is told shows its reply, and a call of what was not asked shows nothing
+
+fn call(number: u32, reply: Reply) -> Step {
+    Step::Call { number, reply }
 }
 
-fn fill(history: &mut History, alloc: Global, part: Part) -> Result<(), Fail> {
-    add_session(&mut history.scripts, alloc)?;
-    add_part(&mut history.entries, alloc, part)
-}
-
-fn printed(alloc: Global, part: Part) -> Result<Vec<u8>, Fail> {
-    let mut history = empty(alloc);
-    fill(&mut history, alloc, part)?;
-    Ok(print(alloc, &history)?)
-}
-
-fn check_lines(rt: &impl Abort, text: &[u8], lines: &[&str]) {
-    let mut rest = text;
-    for line in lines {
-        match rest.strip_prefix(line.as_bytes()) {
-            Some(behind) => rest = behind,
-            None => assert!(rt; false, "no {line}"),
-        }
-    }
-    assert!(rt; rest.is_empty());
-}
-
-fn check(rt: &impl Abort, alloc: Global, part: Part, lines: &[&str]) -> Result<(), Fail> {
-    let text = printed(alloc, part)?;
-    check_lines(rt, text.as_slice(), lines);
-    Ok(())
-}
-
-// ---- replies to a commit that are told
-
-const REPLIES: [&str; 2] = ["s1.1 commit held \n", "s1.1 commit limit ids\n"];
-
-fn reply(row: usize) -> Reply {
+fn session_step(row: usize) -> Step {
     match row {
         // (of a session that is not there)
-        0 => Reply::Held(7),
-        _ => Reply::Limit(LimitName::Ids),
+        0 => call(1, Reply::Held(7)),
+        1 => call(1, Reply::Limit(LimitName::Ids)),
+        2 => Step::Park { number: 2 },
+        3 | 10 => call(2, Reply::Ok),
+        4 => call(1, Reply::Ok),
+        5 => Step::Told { number: 2 },
+        6 => Step::Told { number: 1 },
+        7 => Step::Told { number: 3 },
+        8 => call(0, Reply::Ok),
+        9 => call(3, Reply::Ok),
+        _ => Step::End,
     }
 }
 
-fn add_replies(entries: &mut List<Entry>, alloc: Global) -> Result<(), Fail> {
-    add(entries, alloc, 0, Step::Told { number: 1 })?;
-    for row in 0..2 {
-        let (number, reply) = (1, reply(row));
-        add(entries, alloc, 0, Step::Call { number, reply })?;
+fn add_sessions(
+    entries: &mut List<Entry>,
+    alloc: Global,
+    actors: &[u32],
+) -> Result<(), AllocError> {
+    for (row, actor) in actors.iter().enumerate() {
+        add(entries, alloc, *actor, session_step(row))?;
     }
     Ok(())
-}
-
-#[test]
-fn replies(rt: HostRuntime) -> Result<(), Fail> {
-    check(&rt, rt.alloc(), Part::Replies, &REPLIES)
 }
 
 // ---- steps of the propagator
-
-const PROPAGATED: [&str; 10] = [
-    "arrive h2.3 as a4\n",
-    "arrive a5.1 as h9\n",
-    "arrive h2.3 seen\n",
-    "arrive h2.3 failed no-queue\n",
-    "arrive h2.3 failed wrong-kind\n",
-    "arrive h2.3 failed enqueue-off disabled\n",
-    "arrive h2.3 failed payload\n",
-    "arrive h2.3 failed limit disabled\n",
-    "offer h2.3 to bills\n",
-    "confirm h2.3\n",
-];
 
 fn slot(db: DbId, id: u64, slot: u32) -> SlotRef {
     SlotRef { db, id, slot }
@@ -186,53 +138,62 @@ fn add_arrivals(entries: &mut List<Entry>, alloc: Global) -> Result<(), AllocErr
     Ok(())
 }
 
-fn add_propagated(entries: &mut List<Entry>, alloc: Global) -> Result<(), Fail> {
-    add_arrivals(entries, alloc)?;
+fn offer(alloc: Global) -> Result<Step, NameFault> {
     let at = slot(DbId::Home, 2, 3);
     let to = Boxed::new(alloc, Name::read(alloc, "bills")?)?;
-    add(entries, alloc, 65, Step::Offer { at, to })?;
+    Ok(Step::Offer { at, to })
+}
+
+fn add_propagated(entries: &mut List<Entry>, alloc: Global) -> Result<(), NameFault> {
+    add_arrivals(entries, alloc)?;
+    add(entries, alloc, 65, offer(alloc)?)?;
+    let at = slot(DbId::Home, 2, 3);
     add(entries, alloc, 65, Step::Confirm { at })?;
-    add(entries, alloc, 65, Step::Flush)?;
-    Ok(())
+    Ok(add(entries, alloc, 65, Step::Flush)?)
 }
 
-#[test]
-fn steps_of_the_propagator(rt: HostRuntime) -> Result<(), Fail> {
-    check(&rt, rt.alloc(), Part::Propagated, &PROPAGATED)
+// ---- what is printed of them
+
+const PRINTED: &str = "s1.1 commit held \n\
+s1.1 commit limit ids\n\
+s1.2 rollback untold\n\
+s1.1 commit ok\n\
+s1 end\n\
+arrive h2.3 as a4\n\
+arrive a5.1 as h9\n\
+arrive h2.3 seen\n\
+arrive h2.3 failed no-queue\n\
+arrive h2.3 failed wrong-kind\n\
+arrive h2.3 failed enqueue-off disabled\n\
+arrive h2.3 failed payload\n\
+arrive h2.3 failed limit disabled\n\
+offer h2.3 to bills\n\
+confirm h2.3\n";
+
+fn fill(history: &mut History, alloc: Global) -> Result<(), NameFault> {
+    add_session(&mut history.scripts, alloc)?;
+    // (1 is the actor of a session that is not there)
+    add_sessions(
+        &mut history.entries,
+        alloc,
+        &[0, 0, 0, 0, 0, 1, 0, 0, 0, 0, 1, 1, 0],
+    )?;
+    add_propagated(&mut history.entries, alloc)
 }
 
-// ---- only a call that is told shows its reply, and a call of what was not asked shows nothing
-
-const SHOWN: [&str; 3] = ["s1.2 rollback untold\n", "s1.1 commit ok\n", "s1 end\n"];
-
-fn call(number: u32) -> Step {
-    let reply = Reply::Ok;
-    Step::Call { number, reply }
-}
-
-fn session_step(row: usize) -> Step {
-    match row {
-        0 => Step::Park { number: 2 },
-        1 | 8 => call(2),
-        2 => call(1),
-        3 => Step::Told { number: 2 },
-        4 => Step::Told { number: 1 },
-        5 => Step::Told { number: 3 },
-        6 => call(0),
-        7 => call(3),
-        _ => Step::End,
+fn is_printed(alloc: Global, history: &History) -> bool {
+    match print(alloc, history) {
+        Ok(text) => text.as_slice() == PRINTED.as_bytes(),
+        Err(_) => false,
     }
 }
 
-fn add_untold(entries: &mut List<Entry>, alloc: Global) -> Result<(), Fail> {
-    // (the steps 3, 8 and 9 are those of a session that is not there)
-    for (row, actor) in [0, 0, 0, 1, 0, 0, 0, 0, 1, 1, 0].into_iter().enumerate() {
-        add(entries, alloc, actor, session_step(row))?;
-    }
-    Ok(())
+fn prints(alloc: Global, history: &mut History) -> bool {
+    fill(history, alloc).is_ok() && is_printed(alloc, history)
 }
 
 #[test]
-fn calls_that_are_not_told(rt: HostRuntime) -> Result<(), Fail> {
-    check(&rt, rt.alloc(), Part::Untold, &SHOWN)
+fn replies_and_steps_are_printed(rt: HostRuntime) {
+    let mut history = empty(rt.alloc());
+    assert!(rt; prints(rt.alloc(), &mut history));
 }
