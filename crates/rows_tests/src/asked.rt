@@ -1,9 +1,8 @@
 // Changes, as the cases name them.
 use crate::rows;
-use payload_records::{Boxed, List, Name};
+use payload_records::{Boxed, List, Name, NameFault};
 use queue_rows::{Change, QueueKind};
 use std::alloc::Global;
-use std::test::Fail;
 
 /// A change; what it does to a slot it does to slot 1, at the moment 4 where none is named.
 #[derive(Clone, Copy)]
@@ -28,12 +27,14 @@ pub(crate) enum Asked {
     Message(u32, &'static str, i64),
     /// So many retries of a message.
     Retried(u64, u64),
-    /// A message is taken at that moment.
-    Done(u64, u64),
+    /// A first retry of a message waits until 20.
+    Waits(u64),
+    /// A slot of a message is taken at that moment.
+    Done(u64, u64, u64),
     /// A message expires.
     Expired(u64),
-    /// A message moves to the queue.
-    Moved(u64, &'static str),
+    /// A message moves to the queue at that moment.
+    Moved(u64, &'static str, u64),
     /// A message goes.
     Purged(u64),
     /// A slot was seen that came as the message of that number.
@@ -42,7 +43,12 @@ pub(crate) enum Asked {
     Next(u64),
 }
 
-fn put_queue(alloc: Global, table: &str, name: &str, is_exception: bool) -> Result<Change, Fail> {
+fn put_queue(
+    alloc: Global,
+    table: &str,
+    name: &str,
+    is_exception: bool,
+) -> Result<Change, NameFault> {
     let kind = if is_exception {
         QueueKind::Exception
     } else {
@@ -52,25 +58,25 @@ fn put_queue(alloc: Global, table: &str, name: &str, is_exception: bool) -> Resu
     Ok(Change::PutQueue(Boxed::new(alloc, row)?))
 }
 
-fn no_table(alloc: Global, name: &str) -> Result<Change, Fail> {
+fn no_table(alloc: Global, name: &str) -> Result<Change, NameFault> {
     Ok(Change::DropTable(Name::read(alloc, name)?))
 }
 
-fn no_queue(alloc: Global, name: &str) -> Result<Change, Fail> {
+fn no_queue(alloc: Global, name: &str) -> Result<Change, NameFault> {
     Ok(Change::DropQueue(Name::read(alloc, name)?))
 }
 
-fn moved(alloc: Global, id: u64, queue: &str) -> Result<Change, Fail> {
+fn moved(alloc: Global, id: u64, queue: &str, at: u64) -> Result<Change, NameFault> {
     let queue = Name::read(alloc, queue)?;
-    Ok(Change::Moved { id, queue, at: 4 })
+    Ok(Change::Moved { id, queue, at })
 }
 
-fn retried(id: u64, retries: u64) -> Change {
+fn retried(id: u64, retries: u64, until: Option<u64>) -> Change {
     Change::Retried {
         id,
         slot: 1,
         retries,
-        until: None,
+        until,
         at: 4,
     }
 }
@@ -85,8 +91,9 @@ fn next(next: u64) -> Change {
 
 fn plain(asked: Asked) -> Option<Change> {
     match asked {
-        Asked::Retried(id, retries) => Some(retried(id, retries)),
-        Asked::Done(id, at) => Some(Change::Done { id, slot: 1, at }),
+        Asked::Retried(id, retries) => Some(retried(id, retries, None)),
+        Asked::Waits(id) => Some(retried(id, 1, Some(20))),
+        Asked::Done(id, slot, at) => Some(Change::Done { id, slot, at }),
         Asked::Expired(id) => Some(Change::Expired { id, slot: 1, at: 4 }),
         Asked::Purged(id) => Some(Change::Purged { id }),
         Asked::Seen(copy) => Some(Change::Seen(rows::seen(copy))),
@@ -95,17 +102,17 @@ fn plain(asked: Asked) -> Option<Change> {
     }
 }
 
-fn put_table(alloc: Global, name: &str) -> Result<Change, Fail> {
+fn put_table(alloc: Global, name: &str) -> Result<Change, NameFault> {
     let row = rows::table(alloc, name)?;
     Ok(Change::PutTable(Boxed::new(alloc, row)?))
 }
 
-fn put_retrying(alloc: Global, retries: u64) -> Result<Change, Fail> {
+fn put_retrying(alloc: Global, retries: u64) -> Result<Change, NameFault> {
     let row = rows::retrying(alloc, retries)?;
     Ok(Change::PutQueue(Boxed::new(alloc, row)?))
 }
 
-fn of_queues(alloc: Global, asked: Asked) -> Result<Option<Change>, Fail> {
+fn of_queues(alloc: Global, asked: Asked) -> Result<Option<Change>, NameFault> {
     match asked {
         Asked::Table(name) => Ok(Some(put_table(alloc, name)?)),
         Asked::NoTable(name) => Ok(Some(no_table(alloc, name)?)),
@@ -117,7 +124,7 @@ fn of_queues(alloc: Global, asked: Asked) -> Result<Option<Change>, Fail> {
     }
 }
 
-fn put(alloc: Global, asked: Asked) -> Result<Change, Fail> {
+fn put(alloc: Global, asked: Asked) -> Result<Change, NameFault> {
     match asked {
         Asked::Sub(queue) => {
             let row = rows::sub(alloc, queue)?;
@@ -131,12 +138,12 @@ fn put(alloc: Global, asked: Asked) -> Result<Change, Fail> {
             let row = rows::message(alloc, id, queue, lane)?;
             Ok(Change::Enqueued(Boxed::new(alloc, row)?))
         }
-        Asked::Moved(id, queue) => moved(alloc, id, queue),
-        _ => Err("no row")?,
+        Asked::Moved(id, queue, at) => moved(alloc, id, queue, at),
+        _ => Err(NameFault::Bad),
     }
 }
 
-fn change(alloc: Global, asked: Asked) -> Result<Change, Fail> {
+fn change(alloc: Global, asked: Asked) -> Result<Change, NameFault> {
     if let Some(change) = plain(asked) {
         return Ok(change);
     }
@@ -146,7 +153,7 @@ fn change(alloc: Global, asked: Asked) -> Result<Change, Fail> {
     }
 }
 
-fn add_changes(changes: &mut List<Change>, alloc: Global, all: &[Asked]) -> Result<(), Fail> {
+fn add_changes(changes: &mut List<Change>, alloc: Global, all: &[Asked]) -> Result<(), NameFault> {
     for asked in all {
         changes.push(change(alloc, *asked)?)?;
     }
@@ -154,7 +161,7 @@ fn add_changes(changes: &mut List<Change>, alloc: Global, all: &[Asked]) -> Resu
 }
 
 /// The changes that are asked for.
-pub(crate) fn changes(alloc: Global, all: &[Asked]) -> Result<List<Change>, Fail> {
+pub(crate) fn changes(alloc: Global, all: &[Asked]) -> Result<List<Change>, NameFault> {
     let mut changes = List::new(alloc);
     add_changes(&mut changes, alloc, all)?;
     Ok(changes)

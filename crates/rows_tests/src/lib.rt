@@ -6,8 +6,6 @@ mod asked;
 #[cfg(test)]
 mod cases;
 #[cfg(test)]
-mod fixtures;
-#[cfg(test)]
 mod locks;
 #[cfg(test)]
 mod rows;

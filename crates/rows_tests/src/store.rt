@@ -1,122 +1,43 @@
 // Commits made one after another, and what the tables then hold, as short texts.
-ghost use Rattle.std.specs.Prelude.{All, IsTrue};
-ghost use Rattle.message_store.specs.Numbers.{HasNumbers};
-
-use crate::fixtures;
+use crate::asked::{Asked, changes};
 use message_store::Store;
 use named_list::NamedList;
-use payload_records::{Boxed, List, Name};
-use queue_rows::{Change, MsgRow, QueueKind, QueueRow, Tables};
+use payload_records::{List, NameFault};
+use queue_rows::{MsgRow, QueueRow, SlotRow, SlotState, Tables};
 use row_tree::Tree;
 use std::alloc::{AllocError, Global};
 use std::process::Abort;
-use std::test::Fail;
 
-// ---- commits
+// ---- what the tables hold
 
-#[derive(Clone, Copy)]
-enum Asked {
-    Queue(&'static str),
-    Message(u32, i64),
-    Retried(u64),
-    Done(u64, u64),
-    Moved(u64, u64),
-    Purged(u64),
-    NoQueue(&'static str),
-    NoTable,
-}
-
-fn put_queue(alloc: Global, name: &str) -> Result<Change, Fail> {
-    let queue = fixtures::queue(alloc, name, QueueKind::Normal)?;
-    Ok(Change::PutQueue(Boxed::new(alloc, queue)?))
-}
-
-fn enqueued(alloc: Global, id: u32, lane: i64) -> Result<Change, Fail> {
-    let message = fixtures::message(alloc, id, "q", lane, 1)?;
-    Ok(Change::Enqueued(Boxed::new(alloc, message)?))
-}
-
-fn retried(id: u64) -> Change {
-    Change::Retried {
-        id,
-        slot: 1,
-        retries: 1,
-        until: Some(20),
-        at: 8,
+/// The letter of a slot's state: R, W, P, E or D.
+fn letter(state: SlotState) -> &'static str {
+    match state {
+        SlotState::Ready => "R",
+        SlotState::Waiting => "W",
+        SlotState::Processed => "P",
+        SlotState::Expired => "E",
+        SlotState::Dropped => "D",
     }
 }
 
-fn moved(alloc: Global, id: u64, at: u64) -> Result<Change, Fail> {
-    let queue = Name::read(alloc, "t_e")?;
-    Ok(Change::Moved { id, queue, at })
-}
-
-fn no_queue(alloc: Global, name: &str) -> Result<Change, Fail> {
-    let name = Name::read(alloc, name)?;
-    Ok(Change::DropQueue(name))
-}
-
-fn no_table(alloc: Global) -> Result<Change, Fail> {
-    let name = Name::read(alloc, "t")?;
-    Ok(Change::DropTable(name))
-}
-
-fn change(alloc: Global, asked: Asked) -> Result<Change, Fail> {
-    match asked {
-        Asked::Queue(name) => put_queue(alloc, name),
-        Asked::Message(id, lane) => enqueued(alloc, id, lane),
-        Asked::Retried(id) => Ok(retried(id)),
-        Asked::Done(id, slot) => Ok(Change::Done { id, slot, at: 6 }),
-        Asked::Moved(id, at) => moved(alloc, id, at),
-        Asked::Purged(id) => Ok(Change::Purged { id }),
-        Asked::NoQueue(name) => no_queue(alloc, name),
-        Asked::NoTable => no_table(alloc),
-    }
-}
-
-fn add_changes(changes: &mut List<Change>, alloc: Global, all: &[Asked]) -> Result<(), Fail> {
-    for asked in all {
-        changes.push(change(alloc, *asked)?)?;
+// The slots of a message, each with its state and the moment of it.
+fn put_slots(out: &mut String, slots: &List<SlotRow>) -> Result<(), AllocError> {
+    for slot in slots {
+        let letter = letter(slot.state);
+        let at = slot.at;
+        write!(out, " {letter}{at}")?;
     }
     Ok(())
 }
 
-fn changes(alloc: Global, all: &[Asked]) -> Result<List<Change>, Fail> {
-    let mut changes = List::new(alloc);
-    add_changes(&mut changes, alloc, all)?;
-    Ok(changes)
-}
-
-// ---- numbers that are small enough
-
-fn has_numbers(change: &Change) -> bool
-    ensures { IsTrue result → HasNumbers change.now }
-{
-    match change {
-        Change::Enqueued(row) => row.get().id < 1000 && row.get().group < 1000,
-        _ => true,
-    }
-}
-
-fn have_numbers(changes: &List<Change>) -> bool
-    ensures { IsTrue result → All HasNumbers changes.now }
-{
-    changes.iter().all(|change| has_numbers(change))
-}
-
-// ---- what the tables hold
-
-fn put_message(out: &mut String, message: &MsgRow) -> Result<(), AllocError> {
-    let id = message.id;
-    let queue = message.queue.as_str();
-    write!(out, "{id}.{queue}")?;
-    fixtures::put_slots(out, &message.slots)?;
-    out.push_str(", ")
-}
-
 fn put_messages(out: &mut String, messages: &Tree<MsgRow>) -> Result<(), AllocError> {
     for message in messages {
-        put_message(out, message)?;
+        let id = message.id;
+        let queue = message.queue.as_str();
+        write!(out, "{id}.{queue}")?;
+        put_slots(out, &message.slots)?;
+        out.push_str(", ")?;
     }
     Ok(())
 }
@@ -153,63 +74,55 @@ type Case = (&'static [Asked], u64, &'static str);
 const COMMITS: [Case; 6] = [
     (&[], 99, "| | 1 1 0"),
     (
-        &[Asked::Queue("q"), Asked::Queue("t_e")],
+        &[Asked::Queue("q", false), Asked::Queue("t_e", false)],
         5,
         "q:0 t_e:0 | | 1 1 5",
     ),
     (
-        &[Asked::Message(1, -2), Asked::Message(2, 3)],
+        &[Asked::Message(1, "q", -2), Asked::Message(2, "q", 3)],
         7,
         "q:-2 t_e:0 | 1.q R1, 2.q R1, | 3 2 7",
     ),
     (
-        &[Asked::Retried(1), Asked::Done(2, 1), Asked::Done(9, 1)],
+        &[Asked::Waits(1), Asked::Done(2, 1, 6), Asked::Done(9, 1, 6)],
         8,
         "q:-2 t_e:0 | 1.q W20, 2.q P6, | 3 2 8",
     ),
     (
         &[
-            Asked::Moved(1, 9),
+            Asked::Moved(1, "t_e", 9),
             Asked::Purged(2),
-            Asked::Message(3, 0),
-            Asked::Moved(3, 12),
-            Asked::Moved(3, 13),
+            Asked::Message(3, "q", 0),
+            Asked::Moved(3, "t_e", 12),
+            Asked::Moved(3, "t_e", 13),
         ],
         13,
         "q:-2 t_e:-2 | 1.t_e W20 R9, 3.t_e R1 R12 R13, | 4 2 13",
     ),
     (
         &[
-            Asked::Done(1, 0),
-            Asked::Message(4, 1),
+            Asked::Done(1, 0, 6),
+            Asked::Message(4, "q", 1),
             Asked::NoQueue("q"),
-            Asked::NoTable,
+            Asked::NoTable("t"),
         ],
         6,
         "t_e:-2 | 1.t_e W20 P6, 3.t_e R1 R12 R13, | 5 2 13",
     ),
 ];
 
-// A commit for which there was no memory leaves the tables as they were, and is made again.
-fn commit(store: &mut Store, changes: &List<Change>, moment: u64) -> Result<(), AllocError>
-    requires { All HasNumbers changes.now }
-{
-    if store.commit(changes, moment).is_ok() {
-        return Ok(());
-    }
-    store.commit(changes, moment)
-}
-
-fn leaves(store: &mut Store, alloc: Global, case: &Case) -> Result<bool, Fail> {
+fn leaves(store: &mut Store, alloc: Global, case: &Case) -> Result<bool, NameFault> {
     let changes = changes(alloc, case.0)?;
-    if !have_numbers(&changes) {
-        return Ok(false);
-    }
-    commit(store, &changes, case.1)?;
+    store.commit(&changes, case.1)?;
     Ok(are_shown(alloc, store.tables(), case.2)?)
 }
 
-fn check(rt: &impl Abort, alloc: Global, store: &mut Store, cases: &[Case]) -> Result<(), Fail> {
+fn check(
+    rt: &impl Abort,
+    alloc: Global,
+    store: &mut Store,
+    cases: &[Case],
+) -> Result<(), NameFault> {
     for case in cases {
         assert!(rt; leaves(store, alloc, case)?, "{}", case.2);
     }
@@ -217,48 +130,7 @@ fn check(rt: &impl Abort, alloc: Global, store: &mut Store, cases: &[Case]) -> R
 }
 
 #[test]
-fn commits_leave_what_they_say(rt: HostRuntime) -> Result<(), Fail> {
+fn commits_leave_what_they_say(rt: HostRuntime) -> Result<(), NameFault> {
     let mut store = Store::new(rt.alloc());
     check(&rt, rt.alloc(), &mut store, &COMMITS)
-}
-
-// ---- the first of a number
-
-fn column(store: &Store, id: u64) -> Option<i64> {
-    store.message(id)?.place.numbers().get(1).copied()
-}
-
-fn add_message(store: &mut Store, alloc: Global, id: u32, column: i64) -> Result<(), Fail> {
-    let message = fixtures::message(alloc, id, "q", 0, column)?;
-    let message = Boxed::new(alloc, message)?;
-    fixtures::commit(store, alloc, Change::Enqueued(message))?;
-    Ok(())
-}
-
-fn add_messages(store: &mut Store, alloc: Global) -> Result<(), Fail> {
-    for (id, column) in [(5, 50), (7, 70), (9, 90), (7, 71), (7, 72)] {
-        add_message(store, alloc, id, column)?;
-    }
-    Ok(())
-}
-
-fn is_first(store: &mut Store, alloc: Global, wanted: Option<i64>) -> Result<bool, AllocError> {
-    let is_first = column(store, 7) == wanted;
-    fixtures::commit(store, alloc, Change::Purged { id: 7 })?;
-    Ok(is_first)
-}
-
-fn check_found(rt: &impl Abort, alloc: Global, store: &mut Store) -> Result<(), Fail> {
-    add_messages(store, alloc)?;
-    for wanted in [Some(70), Some(71), Some(72), None] {
-        assert!(rt; is_first(store, alloc, wanted)?);
-    }
-    assert!(rt; column(store, 5) == Some(50) && column(store, 9) == Some(90));
-    Ok(())
-}
-
-#[test]
-fn the_first_message_of_a_number_is_found(rt: HostRuntime) -> Result<(), Fail> {
-    let mut store = Store::new(rt.alloc());
-    check_found(&rt, rt.alloc(), &mut store)
 }
