@@ -1,6 +1,8 @@
-// Disks in memory, and what stands on them.
+// Disks in memory, and the journals on them.
+ghost use Rattle.std.specs.Prelude.{◌≡◌, [], None, IfSome};
 
-use aq_disk::MemoryDisk;
+use aq_disk::{Disk, Fill, MemoryDisk};
+use payload_records::List;
 use redo_journal::{FrameAt, Journal, MountFault};
 use std::alloc::{AllocError, Global};
 
@@ -18,30 +20,50 @@ pub fn disk_in(fault: MountFault<MemoryDisk>) -> MemoryDisk {
     }
 }
 
-/// The bodies on a disk of these bytes, if it has a journal.
-pub fn contents(alloc: Global, bytes: &[u8]) -> Result<Option<Vec<Vec<u8>>>, AllocError> {
-    let Ok((_, frames)) = Journal::mount(alloc, disk_of(alloc, bytes, &[])?) else {
-        return Ok(None);
-    };
-    let mut found = Vec::new(alloc);
-    for frame in frames.into_vec() {
-        let FrameAt { offset: _, bodies } = frame;
-        for body in bodies.into_vec() {
-            found.push(body.into_vec())?;
-        }
+/// The journal of a disk, and how many frames it has, if it has one.
+pub fn mounted(alloc: Global, disk: MemoryDisk) -> Option<(Journal<MemoryDisk>, usize)>
+    ensures queued { IfSome result (λ r. r.0.queued ≡ []) }
+    ensures fine { IfSome result (λ r. r.0.failed_at ≡ None) }
+{
+    match Journal::mount(alloc, disk) {
+        Ok((journal, frames)) => Some((journal, frames.len())),
+        Err(_) => None,
     }
-    Ok(Some(found))
 }
 
-/// Whether these are the bodies.
-pub fn is_same(found: &[Vec<u8>], want: &[&[u8]]) -> bool {
-    if found.len() != want.len() {
-        return false;
-    }
-    for (body, other) in found.iter().zip(want.iter()) {
-        if body.as_slice() != *other {
-            return false;
+fn is_joined(bytes: &[u8], parts: &[&[u8]]) -> bool {
+    let mut rest = bytes;
+    for part in parts {
+        match rest.strip_prefix(*part) {
+            Some(behind) => rest = behind,
+            None => return false,
         }
     }
-    true
+    rest.is_empty()
+}
+
+/// Whether a disk reads as these parts, one behind the other.
+pub fn holds(alloc: Global, disk: &MemoryDisk, parts: &[&[u8]]) -> bool {
+    match disk.image(alloc, disk.calls(), Fill::New) {
+        Ok(image) => is_joined(image.as_slice(), parts),
+        Err(_) => false,
+    }
+}
+
+fn is_body(body: &List<u8>, wanted: &[u8]) -> bool {
+    body.len() == wanted.len() && body.iter().zip(wanted).all(|(byte, other)| byte == other)
+}
+
+/// Whether these are the bodies of the frames, one behind the other.
+pub fn are_bodies(frames: &List<FrameAt>, wanted: &[&[u8]]) -> bool {
+    let mut rest = wanted.iter();
+    for frame in frames {
+        for body in &frame.bodies {
+            match rest.next() {
+                Some(wanted) if is_body(body, wanted) => {}
+                _ => return false,
+            }
+        }
+    }
+    rest.next().is_none()
 }

@@ -1,14 +1,17 @@
-// Disks whose bodies are commits: worked bytes, one journal with its end cut off or a byte changed, and damage behind
-// frames. Whether a commit fits the tables is not told here.
-use crate::commits::OLD_MESSAGE;
+// Disks whose bodies are commits, read back: worked bytes, and one journal with its end cut off or a byte changed.
+ghost use Rattle.std.specs.Option.{ForSome};
+ghost use Rattle.redo_records.specs.Laws.{IsVersion};
+
+use crate::disks::disk_of;
 use aq_disk::MemoryDisk;
+use database_recovery::{damaged_at, recover};
 use payload_records::List;
 use redo_journal::{Damage, FrameAt, Journal, MountFault};
-use redo_records::{DecodeFault, decode};
 use std::alloc::{AllocError, Global};
+use std::process::Abort;
 
-// A journal of version 1 with one commit, which puts a table and its exception queue.
-const ONE_COMMIT: &[u8] =
+/// A journal of version 1 with one commit, which puts a table and its exception queue.
+pub const ONE_COMMIT: &[u8] =
     b"\x01AQJRNL\0\0\0\0\0\0\0\0\x18\0\0\0\0\0\0\0\0\0\0\0\x01\x01\0\0\0\0\0\0\0\x1e\x01\x1c\x01\x01\x01t\x01\x03qty\0\x01\x01\0\0\x03\x03t_e\x01t\x01\0\0\0\0\0\0\0";
 
 // Four frames of version 2, the last with the commits of two sessions.
@@ -30,8 +33,9 @@ const CLOSED: &[u8] = b"\x01AQJRNL\0\0\0\0\0\0\0\0\x18\0\0\0\0\0\0\0\0\0\0\0\x01
 const TOO_LONG: &[u8] =
     b"\x01AQJRNL\0\0\0\0\0\0\0\0\x18\0\0\0\0\0\0\0\0\0\0\0\x01\x01\xff\xff\xff\xff\xff\xff\xff\xff";
 
-// What a disk says.
-#[derive(Clone, Copy, Debug, PartialEq, Eq)]
+// ---- what a disk says
+
+#[derive(Clone, Copy, PartialEq, Eq)]
 enum Told {
     // The offset at which it is damaged.
     Damaged(u64),
@@ -39,83 +43,91 @@ enum Told {
     Latest(u64),
 }
 
-fn moment_of(alloc: Global, version: u32, body: &[u8]) -> Result<Option<u64>, AllocError> {
-    let version = if version == 1 { 1 } else { 2 };
-    match decode(alloc, version, body) {
-        Ok(commit) => Ok(Some(commit.moment)),
-        Err(DecodeFault::NoSpelling) => Ok(None),
-        Err(DecodeFault::Memory) => Err(AllocError),
+fn latest_told(alloc: Global, version: u32, frames: List<FrameAt>) -> Option<Told>
+    requires { IsVersion version }
+{
+    match recover(alloc, version, frames) {
+        Ok(store) => Some(Told::Latest(store.tables().latest)),
+        Err(_) => None,
     }
 }
 
-// The moment of a frame's last commit, if each of its bodies is one.
-fn latest_in(alloc: Global, version: u32, frame: FrameAt) -> Result<Option<u64>, AllocError> {
-    let mut latest = None;
-    for body in frame.bodies.into_vec() {
-        latest = moment_of(alloc, version, &body.into_vec())?;
-        if latest.is_none() {
-            break;
-        }
+fn damage_told(alloc: Global, damage: Damage) -> Option<Told>
+    requires { ForSome damage.version IsVersion }
+{
+    match damaged_at(alloc, damage) {
+        Ok(offset) => Some(Told::Damaged(offset)),
+        Err(_) => None,
     }
-    Ok(latest)
 }
 
-// The bodies of each frame are judged before what stands behind it.
-fn judged(
-    alloc: Global,
-    version: u32,
-    frames: List<FrameAt>,
-    end: Option<u64>,
-) -> Result<Told, AllocError> {
-    let mut latest = 0;
-    for frame in frames.into_vec() {
-        let gate = frame.offset;
-        match latest_in(alloc, version, frame)? {
-            Some(moment) => latest = moment,
-            None => return Ok(Told::Damaged(gate)),
-        }
-    }
-    Ok(match end {
-        Some(offset) => Told::Damaged(offset),
-        None => Told::Latest(latest),
-    })
-}
-
-fn mounted(
-    alloc: Global,
-    bytes: &[u8],
-) -> Result<Result<(u32, List<FrameAt>), Damage>, AllocError> {
-    let disk = MemoryDisk::of(alloc, bytes.to_vec(alloc)?, Vec::new(alloc), None)?;
+// What is told of a disk, if there is memory.
+fn said_of(alloc: Global, disk: MemoryDisk) -> Option<Told> {
     match Journal::mount(alloc, disk) {
-        Ok((journal, frames)) => Ok(Ok((journal.version(), frames))),
-        Err(MountFault::Damaged(damage, _)) => Ok(Err(damage)),
-        Err(_) => Err(AllocError),
+        Ok((journal, frames)) => latest_told(alloc, journal.version(), frames),
+        Err(MountFault::Damaged(damage, _)) => damage_told(alloc, damage),
+        Err(_) => None,
     }
 }
 
-fn what_is_told(alloc: Global, bytes: &[u8]) -> Result<Told, AllocError> {
-    match mounted(alloc, bytes)? {
-        Ok((version, frames)) => judged(alloc, version, frames, None),
-        Err(damage) => {
-            let Damage {
-                offset,
-                version,
-                frames,
-            } = damage;
-            judged(alloc, version.unwrap_or(2), frames, Some(offset))
-        }
+fn is_told(alloc: Global, bytes: &[u8], wanted: Told) -> bool {
+    match disk_of(alloc, bytes, &[]) {
+        Ok(disk) => said_of(alloc, disk) == Some(wanted),
+        Err(_) => false,
     }
 }
 
-// The journal of one commit in a version, with a byte changed.
+// ---- the journal of one commit in a version, with a byte changed or its end cut off
+
+type Alteration = (usize, u8, Told);
+
+const ALTERATIONS: [Alteration; 14] = [
+    (0, 0, Told::Latest(0)),
+    (0, 2, Told::Damaged(0)),
+    (1, 0, Told::Damaged(0)),
+    (7, 1, Told::Damaged(16)),
+    (15, 23, Told::Damaged(8)),
+    (15, 64, Told::Damaged(8)),
+    (27, 3, Told::Damaged(24)),
+    (28, 2, Told::Latest(0)),
+    // a length one too great and one too small; and no body
+    (36, 0x1f, Told::Damaged(28)),
+    (36, 0x1d, Told::Damaged(28)),
+    (37, 0, Told::Damaged(28)),
+    // the moment; and the closed gate, as it is and as another byte
+    (39, 2, Told::Latest(2)),
+    (67, 0, Told::Latest(1)),
+    (67, 0xff, Told::Latest(1)),
+];
+
+fn change(bytes: &mut [u8], at: usize, byte: u8) {
+    if let Some(place) = bytes.get_mut(at) {
+        *place = byte;
+    }
+}
+
 fn altered(alloc: Global, version: u8, at: usize, byte: u8) -> Result<Vec<u8>, AllocError> {
     let mut bytes = ONE_COMMIT.to_vec(alloc)?;
-    for (place, value) in [(27, version), (at, byte)] {
-        if let Some(old) = bytes.get_mut(place) {
-            *old = value;
-        }
-    }
+    change(&mut bytes, 27, version);
+    change(&mut bytes, at, byte);
     Ok(bytes)
+}
+
+fn is_altered(alloc: Global, version: u8, row: &Alteration) -> bool {
+    match altered(alloc, version, row.0, row.1) {
+        Ok(bytes) => is_told(alloc, &bytes, row.2),
+        Err(_) => false,
+    }
+}
+
+fn check_altered(rt: &impl Abort, alloc: Global, version: u8, rows: &[Alteration]) {
+    for row in rows {
+        assert!(rt;
+            is_altered(alloc, version, row),
+            "version {version}, byte {}",
+            row.0
+        );
+    }
 }
 
 fn told_of_cut(left: usize) -> Told {
@@ -127,102 +139,80 @@ fn told_of_cut(left: usize) -> Told {
     }
 }
 
+// The first length at which a cut is not told so.
+fn first_wrong_cut(alloc: Global, bytes: &[u8]) -> usize {
+    for left in 0..bytes.len() {
+        if !is_told(alloc, &bytes[..left], told_of_cut(left)) {
+            return left;
+        }
+    }
+    bytes.len()
+}
+
+fn wrong_cut(alloc: Global, version: u8) -> Result<usize, AllocError> {
+    let bytes = altered(alloc, version, 67, 0)?;
+    Ok(first_wrong_cut(alloc, &bytes))
+}
+
 #[test]
 fn altered_journals(rt: HostRuntime) -> Result<(), AllocError> {
-    let alloc = rt.alloc();
-    let rows = [
-        (0, 0, Told::Latest(0)),
-        (0, 2, Told::Damaged(0)),
-        (1, 0, Told::Damaged(0)),
-        (7, 1, Told::Damaged(16)),
-        (27, 3, Told::Damaged(24)),
-        (28, 2, Told::Latest(0)),
-        // a length one too great and one too small
-        (36, 0x1f, Told::Damaged(28)),
-        (36, 0x1d, Told::Damaged(28)),
-        // the moment; and the closed gate, as it is and as another byte
-        (39, 2, Told::Latest(2)),
-        (67, 0, Told::Latest(1)),
-        (67, 0xff, Told::Latest(1)),
-    ];
     for version in 1..3u8 {
-        for (at, byte, want) in rows {
-            let bytes = altered(alloc, version, at, byte)?;
-            assert_eq!(rt;
-                what_is_told(alloc, &bytes)?,
-                want,
-                "version {version}, byte {at}"
-            );
-        }
-        let whole = altered(alloc, version, 67, 0)?;
-        for left in 0..whole.len() {
-            assert_eq!(rt;
-                what_is_told(alloc, &whole[..left])?,
-                told_of_cut(left),
-                "version {version}, the first {left} bytes"
-            );
-        }
+        check_altered(&rt, rt.alloc(), version, &ALTERATIONS);
+        let cut = wrong_cut(rt.alloc(), version)?;
+        assert!(rt; cut == 68, "version {version}, the first {cut} bytes");
     }
     Ok(())
 }
 
-// How many bodies each frame has, if the bytes are a journal.
-fn bodies_by_frame(alloc: Global, bytes: &[u8]) -> Result<Vec<usize>, AllocError> {
-    let mut counts = Vec::new(alloc);
-    if let Ok((_, frames)) = mounted(alloc, bytes)? {
-        for frame in &frames {
-            counts.push(frame.bodies.len())?;
-        }
+// ---- worked journals, how many bodies each of their frames has, and what is told
+
+type Row = (&'static [u8], &'static [usize], Told);
+
+const WORKED: [Row; 6] = [
+    (ONE_COMMIT, &[1], Told::Latest(1)),
+    (TWO_IN_ONE, &[1, 1, 1, 2], Told::Latest(14)),
+    (OLD_TWO_IN_ONE, &[1, 1, 1, 2], Told::Latest(14)),
+    (COMPACTED, &[1], Told::Latest(13)),
+    (CLOSED, &[], Told::Latest(0)),
+    (TOO_LONG, &[], Told::Damaged(28)),
+];
+
+fn are_counts(frames: &List<FrameAt>, counts: &[usize]) -> bool {
+    let mut all = frames.iter().zip(counts);
+    frames.len() == counts.len() && all.all(|(frame, count)| frame.bodies.len() == *count)
+}
+
+fn is_counted(alloc: Global, disk: MemoryDisk, counts: &[usize]) -> bool {
+    match Journal::mount(alloc, disk) {
+        Ok((_, frames)) => are_counts(&frames, counts),
+        Err(_) => counts.is_empty(),
     }
-    Ok(counts)
+}
+
+fn is_worked(alloc: Global, row: &Row) -> bool {
+    match disk_of(alloc, row.0, &[]) {
+        Ok(disk) => is_counted(alloc, disk, row.1) && is_told(alloc, row.0, row.2),
+        Err(_) => false,
+    }
+}
+
+fn check_worked(rt: &impl Abort, alloc: Global, rows: &[Row]) {
+    for (at, row) in rows.iter().enumerate() {
+        assert!(rt; is_worked(alloc, row), "row {at}");
+    }
+}
+
+// The gate at the end is open, with nothing behind it: what stands before it is read in the version of its area.
+fn is_open_told(alloc: Global) -> Result<bool, AllocError> {
+    let mut bytes = OLD_TWO_IN_ONE.to_vec(alloc)?;
+    let last = OLD_TWO_IN_ONE.len().saturating_sub(1);
+    change(&mut bytes, last, 1);
+    Ok(is_told(alloc, &bytes, Told::Damaged(last as u64)))
 }
 
 #[test]
 fn worked_journals(rt: HostRuntime) -> Result<(), AllocError> {
-    let alloc = rt.alloc();
-    let rows: [(&[u8], &[usize], Told); 6] = [
-        (ONE_COMMIT, &[1], Told::Latest(1)),
-        (TWO_IN_ONE, &[1, 1, 1, 2], Told::Latest(14)),
-        (OLD_TWO_IN_ONE, &[1, 1, 1, 2], Told::Latest(14)),
-        (COMPACTED, &[1], Told::Latest(13)),
-        (CLOSED, &[], Told::Latest(0)),
-        (TOO_LONG, &[], Told::Damaged(28)),
-    ];
-    for (bytes, counts, want) in rows {
-        let found = bodies_by_frame(alloc, bytes)?;
-        assert_eq!(rt; found.as_slice(), counts);
-        assert_eq!(rt; what_is_told(alloc, bytes)?, want);
-    }
-    Ok(())
-}
-
-// A journal of version 1 with a frame for each body, and then an open gate with nothing behind it.
-fn broken_behind(alloc: Global, bodies: &[&[u8]]) -> Result<Vec<u8>, AllocError> {
-    let mut bytes = ONE_COMMIT[..28].to_vec(alloc)?;
-    for body in bodies {
-        bytes.extend_from_slice(&[1, 0, 0, 0, 0, 0, 0, 0])?;
-        let size = (body.len() % 100) as u8;
-        bytes.extend_from_slice(&[size + 2, 1, size])?;
-        bytes.extend_from_slice(body)?;
-    }
-    bytes.push(1)?;
-    Ok(bytes)
-}
-
-// Damage is told behind frames that are read in the version of their area, and a body that is no commit before it.
-#[test]
-fn damage_behind_frames(rt: HostRuntime) -> Result<(), AllocError> {
-    let alloc = rt.alloc();
-    let second = 39 + OLD_MESSAGE.len() as u64;
-    let rows: [(&[&[u8]], u64); 4] = [
-        (&[], 28),
-        (&[OLD_MESSAGE], second),
-        (&[b"\x05", OLD_MESSAGE], 28),
-        (&[OLD_MESSAGE, b"\x05"], second),
-    ];
-    for (bodies, want) in rows {
-        let bytes = broken_behind(alloc, bodies)?;
-        assert_eq!(rt; what_is_told(alloc, &bytes)?, Told::Damaged(want));
-    }
+    check_worked(&rt, rt.alloc(), &WORKED);
+    assert!(rt; is_open_told(rt.alloc())?);
     Ok(())
 }
