@@ -1,0 +1,8 @@
+use Rattle.std.proofs.Common.{◌≡◌, ◌+◌, sym, ◌∙◌, arith}
+use Rattle.benches.proofs.Stamped.{found_from}
+use Rattle.benches.proofs.indexes.store.IndexedStampedMessages.message_at.Goals as goal
+
+pub returns : goal.returns
+returns c =
+    let same : c.args.stamp ≡ 0 + c.args.stamp = omega arith in
+    c.get.ensures ∙ sym (found_from 0 c.args.stamp c.args.stamp c.args.self.now.tables.messages same)

@@ -1,6 +1,0 @@
-use Rattle.std.proofs.Common.{sym, ◌∙◌}
-use Rattle.index_bench.proofs.Numbered.{found}
-use Rattle.index_bench.proofs.store.IndexedMessageTables.message.Goals as goal
-
-pub returns : goal.returns
-returns c = c.get.ensures ∙ sym (found c.args.self.now.tables.messages c.args.id c.args.self.now.numbered)
