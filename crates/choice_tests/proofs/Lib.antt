@@ -1,2 +1,4 @@
+pub mod Apart
+pub mod Found
 pub mod Numbering
 pub mod Sending

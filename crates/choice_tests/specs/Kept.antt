@@ -1,5 +1,5 @@
 -- Messages that are kept under their positions.
-use Rattle.std.specs.Prelude.{ℕ, ◌+◌, ◌<◌, ◌^◌, List, [], ◌∷◌, length}
+use Rattle.std.specs.Prelude.{ℕ, ◌+◌, List, [], ◌∷◌}
 use Rattle.queue_rows.specs.declared.rows.MsgRow.{MsgRow}
 use Rattle.choice_laws.specs.Entries.{Entry}
 
@@ -7,7 +7,3 @@ use Rattle.choice_laws.specs.Entries.{Entry}
 abbrev pub numbered_from : ℕ → List MsgRow → List Entry
 numbered_from n [] = []
 numbered_from n (m ∷ ms) = record { stamp = n; message = m } ∷ numbered_from (n + 1) ms
-
--- the message's slots can be numbered
-abbrev pub HasFewSlots : MsgRow → Type 0
-HasFewSlots m = length m.slots < 2 ^ 32

@@ -1,2 +1,3 @@
 pub mod Bound
+pub mod Few
 pub mod Kept

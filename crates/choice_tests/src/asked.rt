@@ -1,5 +1,5 @@
 // What is asked for, at random.
-use crate::rows::{any_name, below};
+use crate::any_rows::{any_name, below};
 use message_choice::Pick;
 use payload_records::{List, Name, Text};
 use place_keys::Place;
@@ -9,12 +9,22 @@ use std::alloc::{AllocError, Global};
 use std::test::Fail;
 
 /// What the parts of a pick that are lent are lent from.
-#[derive(Drop)]
 pub struct Asked {
     consumer: Option<Name>,
     position: Option<Position>,
     corr: Option<Text>,
     condition: Option<Cond>,
+}
+
+impl Drop for Asked {
+    fn drop(self) {
+        let Self {
+            consumer: _,
+            position: _,
+            corr: _,
+            condition: _,
+        } = self;
+    }
 }
 
 fn any_position(seed: &mut u32, alloc: Global) -> Result<Option<Position>, Fail> {

@@ -1,5 +1,6 @@
 // Commits at random.
-use crate::rows::{any_message, any_queue, below, queue};
+use crate::any_rows::{any_message, any_queue, below};
+use crate::rows::{arrival, queue};
 use message_store::PreparedStore;
 use payload_records::{Boxed, List};
 use queue_rows::{Change, Commit, QueueKind};
@@ -44,8 +45,8 @@ fn queue_change(seed: &mut u32, alloc: Global) -> Result<Change, Fail> {
     if below(seed, 4) == 0 {
         Ok(Change::DropQueue(any_queue(seed, alloc)?))
     } else {
-        let mut row = queue(alloc, "q", QueueKind::Normal)?;
-        row.retention = u64::from(below(seed, 2)) * 30;
+        let retention = u64::from(below(seed, 2)) * 30;
+        let row = queue(alloc, "q", "t", (QueueKind::Normal, true, retention))?;
         Ok(Change::PutQueue(Boxed::new(alloc, row)?))
     }
 }
@@ -64,7 +65,7 @@ fn any_change(seed: &mut u32, next: &mut u32, alloc: Global) -> Result<Change, F
             let id = *next;
             *next = id.wrapping_add(1);
             let message = any_message(seed, alloc, id)?;
-            Ok(Change::Enqueued(Boxed::new(alloc, message)?))
+            Ok(arrival(alloc, message)?)
         }
     }
 }
@@ -81,8 +82,8 @@ fn add_changes(
     Ok(())
 }
 
-// It is prepared, and then made.
-fn commit(store: &mut PreparedStore, changes: List<Change>) -> Result<(), AllocError> {
+/// Makes the changes, which are prepared first.
+pub fn commit(store: &mut PreparedStore, changes: List<Change>) -> Result<(), AllocError> {
     let commit = Commit { moment: 9, changes };
     store.prepare(&commit)?;
     store.apply(commit);

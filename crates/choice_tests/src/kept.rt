@@ -1,11 +1,12 @@
 // Messages kept under their positions, the index of their ready slots, and the choice by it beside that by a walk.
-ghost use Rattle.std.specs.Prelude.{◌≡◌, [], IsTrue, IfOk, All};
+ghost use Rattle.std.specs.Prelude.{◌≡◌, [], IsTrue, IfOk};
 ghost use Rattle.slot_marks.specs.Marks.{marks_of};
 ghost use Rattle.choice_laws.specs.Entries.{Entry};
 ghost use Rattle.message_choice.specs.Asking.{AreSound};
 ghost use Rattle.message_choice.specs.Indexed.{IndexesReady};
-ghost use Rattle.choice_tests.specs.Kept.{HasFewSlots, numbered_from};
+ghost use Rattle.choice_tests.specs.Kept.{numbered_from};
 
+use crate::calls::have_few;
 use message_choice::{Choice, Pick, StampedMessages, choose, choose_by_walk};
 use queue_rows::{MsgRow, QueueRow, TableRow};
 use ready_slots::ReadySlots;
@@ -16,13 +17,13 @@ use std::alloc::{AllocError, Global};
 use std::sync::ledger::Ledger;
 
 /// Messages under their positions.
-#[derive(Drop)]
-pub struct Numbered {
-    pub messages: Tree<MsgRow>,
+#[derive(Clone, Copy)]
+pub struct Numbered<'a> {
+    pub messages: &'a Tree<MsgRow>,
 }
 
-impl StampedMessages for Numbered {
-    ghost entries = { λ n. numbered_from 0 n.messages };
+impl<'a> StampedMessages for Numbered<'a> {
+    ghost entries = { λ n. numbered_from 0 n.messages.now };
 
     fn message_at(&self, stamp: u64) -> Option<&MsgRow> {
         self.messages.get(stamp as usize)
@@ -30,28 +31,17 @@ impl StampedMessages for Numbered {
 }
 
 /// The index of all messages.
-pub fn index_of(kept: &Numbered, alloc: Global) -> Result<ReadySlots, AllocError>
-    ensures { IfOk result (λ ready. IndexesReady (numbered_from 0 kept.now.messages) ready) }
+pub fn index_of(messages: &Tree<MsgRow>, alloc: Global) -> Result<ReadySlots, AllocError>
+    ensures { IfOk result (λ ready. IndexesReady (numbered_from 0 messages.now) ready) }
 {
-    let _most = kept.messages.len();
+    let _most = messages.len();
     let mut ready = ReadySlots::new(alloc);
     let mut stamp = 0;
-    for message in &kept.messages {
+    for message in messages {
         ready.put(stamp, message)?;
         stamp += 1;
     }
     Ok(ready)
-}
-
-fn have_few_slots(messages: &Tree<MsgRow>) -> bool
-    ensures { IsTrue result → All HasFewSlots messages.now }
-{
-    for message in messages {
-        if message.slots.len() >= 1 << 32 {
-            return false;
-        }
-    }
-    true
 }
 
 fn has_no_mark(locks: &RowLocks, actor: u32) -> bool
@@ -65,7 +55,7 @@ pub fn can_choose(messages: &Tree<MsgRow>, locks: &RowLocks, actor: u32, pick: &
     ensures { IsTrue result
         → AreSound (marks_of locks.now actor) pick.now.queue.now pick.now.table.now messages.now }
 {
-    have_few_slots(messages) && (!pick.table.grouped || has_no_mark(locks, actor))
+    have_few(messages) && (!pick.table.grouped || has_no_mark(locks, actor))
 }
 
 /// Whether both are the same message and slot, or the same lack of one.
@@ -85,18 +75,18 @@ pub fn are_same(left: Choice<'_>, right: Choice<'_>) -> bool {
 
 /// Whether both choose the same.
 pub fn choose_alike<L: Ledger>(
-    kept: &Numbered,
+    kept: &Numbered<'_>,
     ready: &ReadySlots,
     locks: &RowLocks,
     actor: u32,
     pick: &Pick<'_>,
     steps: &mut Steps<L>,
 ) -> bool
-    requires indexed { IndexesReady (numbered_from 0 kept.now.messages) ready.now }
-    requires sound { let messages = kept.now.messages in
+    requires indexed { IndexesReady (numbered_from 0 kept.now.messages.now) ready.now }
+    requires sound { let messages = kept.now.messages.now in
         AreSound (marks_of locks.now actor) pick.now.queue.now pick.now.table.now messages }
 {
     let by_index = choose(kept, ready.index(), locks, actor, pick, steps);
-    let by_walk = choose_by_walk(&kept.messages, locks, actor, pick, steps);
+    let by_walk = choose_by_walk(kept.messages, locks, actor, pick, steps);
     are_same(by_index, by_walk)
 }

@@ -1,14 +1,25 @@
-//! Tests of how a dequeue's message is chosen: by an index of ready slots, beside a walk over all messages, and by a store, beside
-//! the definition.
+//! Tests of what a store finds: the message that a dequeue gets, the slot that is sent, and what is due.
 #![tactic(auto)]
 
+#[cfg(test)]
+mod any_rows;
+#[cfg(test)]
+mod arrivals;
 #[cfg(test)]
 mod asked;
 mod bound;
 #[cfg(test)]
+mod calls;
+#[cfg(test)]
 mod commits;
 #[cfg(test)]
+mod confirmations;
+#[cfg(test)]
+mod due_cases;
+#[cfg(test)]
 mod kept;
+#[cfg(test)]
+mod picks;
 #[cfg(test)]
 mod plain;
 #[cfg(test)]
@@ -19,5 +30,7 @@ mod remote;
 mod rows;
 #[cfg(test)]
 mod stores;
+#[cfg(test)]
+mod texts;
 
 pub use bound::steps_in_example;

@@ -1,6 +1,6 @@
 // The choice as it is defined: of all messages that may be given those that the navigation asks for, and of these the one with the least
 // place. It asks no index, and of the marks no more than their lists.
-use crate::rows::SESSIONS;
+use crate::any_rows::SESSIONS;
 use message_choice::{Choice, Pick};
 use payload_records::Name;
 use place_keys::compare;

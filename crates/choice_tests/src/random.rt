@@ -3,13 +3,14 @@ ghost use Rattle.std.specs.Prelude.{◌≡◌, ◌<◌};
 ghost use Rattle.message_choice.specs.Indexed.{IndexesReady};
 ghost use Rattle.choice_tests.specs.Kept.{numbered_from};
 
+use crate::any_rows::{fill, mark};
 use crate::asked::{any_asked, any_pick};
 use crate::kept::{Numbered, can_choose, choose_alike, index_of};
-use crate::rows::{fill, mark, queue, table};
+use crate::rows::{queue, table};
+use message_store::PreparedStore;
 use queue_rows::{QueueKind, QueueRow, TableRow};
 use ready_slots::ReadySlots;
 use row_locks::RowLocks;
-use row_tree::Tree;
 use sort_index::Steps;
 use std::alloc::Global;
 use std::marker::Brand;
@@ -25,7 +26,7 @@ struct Place<'a> {
 
 // One question of the session 1.
 fn answers_alike<L: Ledger>(
-    kept: &Numbered,
+    kept: &Numbered<'_>,
     ready: &ReadySlots,
     locks: &RowLocks,
     place: Place<'_>,
@@ -33,18 +34,18 @@ fn answers_alike<L: Ledger>(
     seed: &mut u32,
     steps: &mut Steps<L>,
 ) -> Result<bool, Fail>
-    requires { IndexesReady (numbered_from 0 kept.now.messages) ready.now }
+    requires { IndexesReady (numbered_from 0 kept.now.messages.now) ready.now }
 {
     let asked = any_asked(seed, alloc)?;
     let pick = any_pick(seed, &asked, place.queue, place.table);
     Ok(
-        can_choose(&kept.messages, locks, 1, &pick)
+        can_choose(kept.messages, locks, 1, &pick)
             && choose_alike(kept, ready, locks, 1, &pick, steps),
     )
 }
 
 fn all_alike<L: Ledger>(
-    kept: &Numbered,
+    kept: &Numbered<'_>,
     ready: &ReadySlots,
     locks: &RowLocks,
     place: Place<'_>,
@@ -52,7 +53,7 @@ fn all_alike<L: Ledger>(
     seed: &mut u32,
     steps: &mut Steps<L>,
 ) -> Result<bool, Fail>
-    requires { IndexesReady (numbered_from 0 kept.now.messages) ready.now }
+    requires { IndexesReady (numbered_from 0 kept.now.messages.now) ready.now }
 {
     for _ in 0..8 {
         if !answers_alike(kept, ready, locks, place, alloc, seed, steps)? {
@@ -68,10 +69,11 @@ fn store_alike<L: Ledger>(
     seed: &mut u32,
     steps: &mut Steps<L>,
 ) -> Result<bool, Fail> {
-    let mut messages = Tree::new();
-    fill(&mut messages, seed, alloc)?;
+    let mut store = PreparedStore::new(alloc);
+    fill(&mut store, seed, alloc)?;
+    let messages = &store.tables().messages;
     let kept = Numbered { messages };
-    let ready = index_of(&kept, alloc)?;
+    let ready = index_of(messages, alloc)?;
     let mut locks = RowLocks::new(alloc);
     mark(&mut locks, seed, alloc, place.table.grouped)?;
     all_alike(&kept, &ready, &locks, place, alloc, seed, steps)
@@ -102,8 +104,8 @@ fn run_alike<L: Ledger>(
     requires some { 0 < blank.parts }
 {
     let mut steps = Steps::<L>::new(blank);
-    let queue = queue(alloc, "q", kind)?;
-    let table = table(alloc, grouped)?;
+    let queue = queue(alloc, "q", "t", (kind, true, 0))?;
+    let table = table(alloc, "t", &[], (true, grouped))?;
     let place = Place {
         queue: &queue,
         table: &table,

@@ -3,11 +3,12 @@ ghost use Rattle.std.specs.Prelude.{◌≡◌, ◌<◌};
 ghost use Rattle.slot_marks.specs.Marks.{marks_of};
 ghost use Rattle.message_choice.specs.Asking.{AreSound};
 
+use crate::any_rows::{below, mark};
 use crate::asked::{any_asked, any_pick};
 use crate::commits::any_commit;
 use crate::kept::{are_same, can_choose};
 use crate::plain::{Question, choose_plainly};
-use crate::rows::{below, mark, queue, table};
+use crate::rows::{queue, table};
 use message_choice::{ChoosesMessages, Pick};
 use message_store::PreparedStore;
 use queue_rows::{QueueKind, QueueRow, TableRow};
@@ -19,17 +20,26 @@ use std::sync::ledger::{Blank, Ledger};
 use std::test::Fail;
 
 // Two queues, and their table.
-#[derive(Drop)]
 struct Places {
     first: QueueRow,
     second: QueueRow,
     table: TableRow,
 }
 
+impl Drop for Places {
+    fn drop(self) {
+        let Self {
+            first: _,
+            second: _,
+            table: _,
+        } = self;
+    }
+}
+
 fn make_places(alloc: Global, kind: QueueKind, grouped: bool) -> Result<Places, Fail> {
-    let first = queue(alloc, "q", kind)?;
-    let second = queue(alloc, "r", kind)?;
-    let table = table(alloc, grouped)?;
+    let first = queue(alloc, "q", "t", (kind, true, 0))?;
+    let second = queue(alloc, "r", "t", (kind, true, 0))?;
+    let table = table(alloc, "t", &[], (true, grouped))?;
     Ok(Places {
         first,
         second,

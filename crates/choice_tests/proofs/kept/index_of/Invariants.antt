@@ -8,7 +8,7 @@ use Rattle.choice_tests.proofs.kept.index_of.Given as goal
 abbrev pub invariant-loop-message : goal.invariant-loop-message
 invariant-loop-message l = record {
   done : List MsgRow;
-  all : done ++ l.message-iterator ≡ l.kept.messages;
+  all : done ++ l.message-iterator ≡ l.messages;
   stamps : l.stamp ≡ length done;
   indexed : IndexesReady (numbered_from 0 done) l.ready;
 }

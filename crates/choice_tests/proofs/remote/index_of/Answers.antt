@@ -23,7 +23,7 @@ loop-message-preserved c =
     let m = c.in-Some.message.now in
     record {
       done = so.done ++ m ∷ [];
-      all = split_on m so.done c.next.new.self c.loop-message.message-iterator c.args.kept.now.messages c.in-Some.ensures.steps so.all;
+      all = split_on m so.done c.next.new.self c.loop-message.message-iterator c.args.messages.now c.in-Some.ensures.steps so.all;
       stamps = longer c.loop-message.stamp m so.done so.stamps;
       indexed = one_more c.loop-message.stamp m so.done c.loop-message.remote c.put.new.self so.stamps c.in_ok-put.ensures so.indexed;
     }

@@ -5,4 +5,4 @@ use Rattle.choice_tests.proofs.kept.NumberedStampedMessages.message_at.Goals as 
 pub returns : goal.returns
 returns c =
     let same : c.args.stamp ≡ 0 + c.args.stamp = omega arith in
-    c.get.ensures ∙ sym (found_from 0 c.args.stamp c.args.stamp c.args.self.now.messages same)
+    c.get.ensures ∙ sym (found_from 0 c.args.stamp c.args.stamp c.args.self.now.messages.now same)

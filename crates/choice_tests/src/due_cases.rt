@@ -1,7 +1,8 @@
 // What is due at the moment 20.
-use crate::rows::{Messages, tables};
+use crate::rows::{Home, SlotOf, store_of};
 use crate::{calls, texts};
 use aq_base::DbId;
+use message_store::PreparedStore;
 use payload_records::Name;
 use queue_rows::SlotRef;
 use queue_rows::SlotState::{Dropped, Expired, Processed, Ready, Waiting};
@@ -23,81 +24,93 @@ enum Left {
     Sent(DbId),
 }
 
+// The slots of the messages 5 and 3, which stand in that order and are of one group; the one without slots is not there.
+type Messages = (&'static [SlotOf<'static>], &'static [SlotOf<'static>]);
+
 type Case = (Left, Messages, &'static str);
 
 const CASES: [Case; 17] = [
     (
         Left::Nothing,
-        (&[(Waiting, 20, 0)], &[]),
+        (&[("", Waiting, 20, 0)], &[]),
         "ready 5.1 at 20;",
     ),
-    (Left::Nothing, (&[(Waiting, 21, 0)], &[]), ""),
+    (Left::Nothing, (&[("", Waiting, 21, 0)], &[]), ""),
     (
         Left::Nothing,
-        (&[(Ready, 1, 20)], &[]),
-        "expired 5.1 at 20;moved 5 to t_e at 20;",
+        (&[("", Ready, 1, 20)], &[]),
+        "expired 5.1 at 20;moved 5 to m_e at 20;",
     ),
-    (Left::Nothing, (&[(Ready, 1, 21)], &[]), ""),
-    (Left::Nothing, (&[(Ready, 1, 0)], &[]), ""),
+    (Left::Nothing, (&[("", Ready, 1, 21)], &[]), ""),
+    (Left::Nothing, (&[("", Ready, 1, 0)], &[]), ""),
     (
         Left::Nothing,
-        (&[(Waiting, 20, 20)], &[]),
-        "expired 5.1 at 20;moved 5 to t_e at 20;",
-    ),
-    (
-        Left::Nothing,
-        (&[(Waiting, 21, 20)], &[]),
-        "expired 5.1 at 20;moved 5 to t_e at 20;",
+        (&[("", Waiting, 20, 20)], &[]),
+        "expired 5.1 at 20;moved 5 to m_e at 20;",
     ),
     (
         Left::Nothing,
-        (&[(Waiting, 20, 21)], &[]),
+        (&[("", Waiting, 21, 20)], &[]),
+        "expired 5.1 at 20;moved 5 to m_e at 20;",
+    ),
+    (
+        Left::Nothing,
+        (&[("", Waiting, 20, 21)], &[]),
         "ready 5.1 at 20;",
     ),
     (
         Left::Nothing,
-        (&[(Processed, 13, 0), (Dropped, 19, 0)], &[]),
+        (&[("", Processed, 13, 0), ("", Dropped, 19, 0)], &[]),
         "purged 5;",
     ),
     (
         Left::Nothing,
-        (&[(Processed, 14, 0), (Dropped, 1, 0)], &[]),
+        (&[("", Processed, 14, 0), ("", Dropped, 1, 0)], &[]),
         "",
     ),
-    (Left::Nothing, (&[(Dropped, 19, 0)], &[]), "purged 5;"),
+    (Left::Nothing, (&[("", Dropped, 19, 0)], &[]), "purged 5;"),
     (
         Left::Marked(1),
-        (&[(Ready, 1, 20), (Ready, 1, 20)], &[]),
+        (&[("", Ready, 1, 20), ("", Ready, 1, 20)], &[]),
         "expired 5.2 at 20;",
     ),
     (
         Left::Marked(2),
-        (&[(Ready, 1, 20), (Waiting, 20, 0)], &[]),
+        (&[("", Ready, 1, 20), ("", Waiting, 20, 0)], &[]),
         "expired 5.1 at 20;",
     ),
-    (Left::Grouped, (&[(Ready, 1, 20)], &[(Waiting, 20, 0)]), ""),
-    (Left::Sent(DbId::Home), (&[(Ready, 1, 20)], &[]), ""),
+    (
+        Left::Grouped,
+        (&[("", Ready, 1, 20)], &[("", Waiting, 20, 0)]),
+        "",
+    ),
+    (Left::Sent(DbId::Home), (&[("", Ready, 1, 20)], &[]), ""),
     (
         Left::Sent(DbId::Away),
-        (&[(Ready, 1, 20)], &[]),
-        "expired 5.1 at 20;moved 5 to t_e at 20;",
+        (&[("", Ready, 1, 20)], &[]),
+        "expired 5.1 at 20;moved 5 to m_e at 20;",
     ),
     (
         Left::Nothing,
         (
-            &[(Expired, 1, 2), (Waiting, 19, 30), (Ready, 1, 12)],
-            &[(Ready, 1, 11), (Processed, 1, 0)],
+            &[
+                ("", Expired, 1, 2),
+                ("", Waiting, 19, 30),
+                ("", Ready, 1, 12),
+            ],
+            &[("", Ready, 1, 11), ("", Processed, 1, 0)],
         ),
-        "ready 5.2 at 20;expired 5.3 at 20;expired 3.1 at 20;moved 3 to t_e at 20;",
+        "ready 5.2 at 20;expired 5.3 at 20;expired 3.1 at 20;moved 3 to m_e at 20;",
     ),
 ];
 
 fn group(alloc: Global) -> Result<Group, Fail> {
-    let queue = Name::read(alloc, "q")?;
+    let queue = Name::read(alloc, "mq")?;
+    let consumer = Name::read(alloc, "r")?;
     Ok(Group {
         queue,
         number: 1,
-        consumer: None,
+        consumer: Some(consumer),
     })
 }
 
@@ -128,11 +141,27 @@ fn sent(left: Left) -> Option<SlotRef> {
     }
 }
 
-fn is_right(alloc: Global, locks: &RowLocks, row: &Case) -> Result<bool, Fail> {
-    let tables = tables(alloc, row.1)?;
+fn is_due(
+    alloc: Global,
+    store: &PreparedStore,
+    locks: &RowLocks,
+    row: &Case,
+) -> Result<bool, Fail> {
     let sent = sent(row.0);
-    let changes = calls::due_at_twenty(alloc, tables, locks, sent.as_ref())?;
+    let changes = calls::due_at_twenty(store, locks, sent.as_ref())?;
     Ok(texts::are_changes(alloc, &changes, row.2)?)
+}
+
+fn is_right(alloc: Global, locks: &RowLocks, row: &Case) -> Result<bool, Fail> {
+    let both = [(5, "mq", 1, row.1.0), (3, "mq", 1, row.1.1)];
+    let there = if row.1.1.is_empty() { 1 } else { 2 };
+    let home = Home {
+        retention: 7,
+        schedules: &[],
+        messages: &both[..there],
+    };
+    let store = store_of(alloc, &home)?;
+    is_due(alloc, &store, locks, row)
 }
 
 fn holds(alloc: Global, row: &Case) -> Result<bool, Fail> {

@@ -1,13 +1,11 @@
 // What is committed at the origin when a slot has come to its destination.
-use crate::rows::{self, ALWAYS, FieldOf, Plan, SlotOf};
+use crate::rows::{ALWAYS, Home, Plan, SlotOf, store_of};
 use crate::{calls, texts};
-use payload_records::Kind;
-use queue_rows::{QueueKind, SlotState, Tables};
+use message_store::PreparedStore;
+use queue_rows::SlotState;
 use std::alloc::Global;
 use std::process::Abort;
 use std::test::Fail;
-
-const QTY: &[FieldOf] = &[("qty", Kind::Num)];
 
 const FAILED: Plan = Plan {
     failures: 3,
@@ -21,9 +19,9 @@ const DISABLED: Plan = Plan {
 };
 
 // The slots of the message, how long its queue keeps what was taken, the schedule, and what is committed at the moment 60.
-type Case = (&'static [SlotOf], u64, Plan, &'static str);
+type Case = (&'static [SlotOf<'static>], u64, Plan, &'static str);
 
-const ALONE: &[SlotOf] = &[("inq", SlotState::Ready, 1)];
+const ALONE: &[SlotOf<'static>] = &[("inq", SlotState::Ready, 1, 99)];
 
 const CASES: [Case; 6] = [
     (ALONE, 0, ALWAYS, "done 7.1 at 60;purged 7;"),
@@ -43,41 +41,39 @@ const CASES: [Case; 6] = [
     (ALONE, 9, ALWAYS, "done 7.1 at 60;"),
     // another one may take it
     (
-        &[("inq", SlotState::Ready, 1), ("", SlotState::Ready, 1)],
+        &[
+            ("inq", SlotState::Ready, 1, 99),
+            ("", SlotState::Ready, 1, 99),
+        ],
         0,
         ALWAYS,
         "done 7.1 at 60;",
     ),
     // another one has lost it
     (
-        &[("inq", SlotState::Ready, 1), ("", SlotState::Expired, 1)],
+        &[
+            ("inq", SlotState::Ready, 1, 99),
+            ("", SlotState::Expired, 1, 99),
+        ],
         0,
         ALWAYS,
         "done 7.1 at 60;moved 7 to m_e at 60;",
     ),
 ];
 
-fn add_rows(tables: &mut Tables, alloc: Global, row: &Case) -> Result<(), Fail> {
-    let table = rows::table(alloc, "m", QTY, (true, false))?;
-    tables.tables.append(alloc, table)?;
-    let queue = rows::queue(alloc, "mq", "m", (QueueKind::Normal, true, row.1))?;
-    tables.queues.append(alloc, queue)?;
-    let schedule = rows::schedule(alloc, "inq", row.2)?;
-    tables.schedules.push(schedule)?;
-    let message = rows::message(alloc, &(7, "mq", 9, row.0))?;
-    tables.messages.append(alloc, message)?;
-    Ok(())
-}
-
-fn commits(alloc: Global, tables: &Tables, text: &str) -> Result<bool, Fail> {
-    let changes = calls::confirmed(tables, 60)?;
+fn commits(alloc: Global, origin: &PreparedStore, text: &str) -> Result<bool, Fail> {
+    let changes = calls::confirmed(origin, 60)?;
     Ok(texts::are_changes(alloc, &changes, text)?)
 }
 
 fn is_right(alloc: Global, row: &Case) -> Result<bool, Fail> {
-    let mut tables = Tables::new(alloc);
-    add_rows(&mut tables, alloc, row)?;
-    commits(alloc, &tables, row.3)
+    let home = Home {
+        retention: row.1,
+        schedules: &[("inq", row.2)],
+        messages: &[(7, "mq", 9, row.0)],
+    };
+    let origin = store_of(alloc, &home)?;
+    commits(alloc, &origin, row.3)
 }
 
 fn check(rt: &impl Abort, alloc: Global, all: &[Case]) -> Result<(), Fail> {

@@ -1,28 +1,23 @@
 // What the arrival of a slot does at its destination.
-use crate::rows::{self, ALWAYS, FieldOf, MessageOf, Plan, QueueOf, TableKind};
+use crate::commits::commit;
+use crate::rows::{
+    ALWAYS, FieldOf, Home, Plan, QTY, QueueOf, TableKind, add_queue, queue, store_of, table,
+};
 use crate::{calls, texts};
+use message_store::PreparedStore;
 use payload_records::{Kind, List};
-use queue_rows::{Change, QueueKind, ScheduleRow, SeenRow, SlotState, Tables};
+use queue_rows::{Change, QueueKind, SeenRow, SlotState};
 use std::alloc::Global;
 use std::process::Abort;
 use std::test::Fail;
 
-const QTY: &[FieldOf] = &[("qty", Kind::Num)];
-
-const SEVEN: MessageOf = (7, "mq", 9, &[("inq", SlotState::Ready, 1)]);
-
-// ---- the origin
-
-fn add_origin(tables: &mut Tables, alloc: Global, plan: Plan) -> Result<(), Fail> {
-    let table = rows::table(alloc, "m", QTY, (true, false))?;
-    tables.tables.append(alloc, table)?;
-    let queue = rows::queue(alloc, "mq", "m", (QueueKind::Normal, true, 0))?;
-    tables.queues.append(alloc, queue)?;
-    let schedule = rows::schedule(alloc, "inq", plan)?;
-    tables.schedules.push(schedule)?;
-    let message = rows::message(alloc, &SEVEN)?;
-    tables.messages.append(alloc, message)?;
-    Ok(())
+fn origin(alloc: Global, plan: Plan) -> Result<PreparedStore, Fail> {
+    let home = Home {
+        retention: 0,
+        schedules: &[("inq", plan)],
+        messages: &[(7, "mq", 9, &[("inq", SlotState::Ready, 1, 99)])],
+    };
+    store_of(alloc, &home)
 }
 
 // ---- the destination
@@ -53,13 +48,19 @@ fn seen(slot: u64) -> SeenRow {
     }
 }
 
-fn add_there(tables: &mut Tables, alloc: Global, there: There) -> Result<(), Fail> {
-    let table = rows::table(alloc, "t", there.fields, there.kind)?;
-    tables.tables.append(alloc, table)?;
-    let queue = rows::queue(alloc, there.name, "t", there.queue)?;
-    tables.queues.append(alloc, queue)?;
-    tables.seen.append(alloc, seen(there.seen))?;
-    tables.transaction = 2;
+// The next group is 2.
+const COUNTERS: Change = Change::Counters {
+    next: 1,
+    transaction: 2,
+    latest: 0,
+};
+
+fn add_there(changes: &mut List<Change>, alloc: Global, there: There) -> Result<(), Fail> {
+    let table = table(alloc, "t", there.fields, there.kind)?;
+    let queue = queue(alloc, there.name, "t", there.queue)?;
+    add_queue(changes, alloc, table, queue)?;
+    changes.push(Change::Seen(seen(there.seen)))?;
+    changes.push(COUNTERS)?;
     Ok(())
 }
 
@@ -154,22 +155,22 @@ const CASES: [Case; 12] = [
     ),
 ];
 
-fn origin(alloc: Global, plan: Plan) -> Result<Tables, Fail> {
-    let mut tables = Tables::new(alloc);
-    add_origin(&mut tables, alloc, plan)?;
-    Ok(tables)
+fn put_there(store: &mut PreparedStore, alloc: Global, row: There) -> Result<(), Fail> {
+    let mut changes = List::new(alloc);
+    add_there(&mut changes, alloc, row)?;
+    Ok(commit(store, changes)?)
 }
 
-fn destination(alloc: Global, row: There) -> Result<Tables, Fail> {
-    let mut tables = Tables::new(alloc);
-    add_there(&mut tables, alloc, row)?;
-    Ok(tables)
+fn destination(alloc: Global, row: There) -> Result<PreparedStore, Fail> {
+    let mut store = PreparedStore::new(alloc);
+    put_there(&mut store, alloc, row)?;
+    Ok(store)
 }
 
 fn ends_so(
     alloc: Global,
-    origin: &Tables,
-    there: &Tables,
+    origin: &PreparedStore,
+    there: &PreparedStore,
     next: u64,
     text: &str,
 ) -> Result<bool, Fail> {
@@ -177,12 +178,12 @@ fn ends_so(
     Ok(texts::is_arrival(alloc, &arriving, text)?)
 }
 
-fn is_right(alloc: Global, origin: &Tables, row: &Case) -> Result<bool, Fail> {
+fn is_right(alloc: Global, origin: &PreparedStore, row: &Case) -> Result<bool, Fail> {
     let there = destination(alloc, row.0)?;
     ends_so(alloc, origin, &there, row.1, row.2)
 }
 
-fn check(rt: &impl Abort, alloc: Global, origin: &Tables, all: &[Case]) -> Result<(), Fail> {
+fn check(rt: &impl Abort, alloc: Global, origin: &PreparedStore, all: &[Case]) -> Result<(), Fail> {
     for row in all {
         assert!(rt; is_right(alloc, origin, row)?, "{}", row.2);
     }
@@ -224,46 +225,34 @@ const OFF: There = There {
     ..THERE
 };
 
-// The schedule that the arrival puts takes the place of the one that is there.
-fn put(schedules: &mut List<ScheduleRow>, mut changes: List<Change>) -> Result<bool, Fail> {
-    match changes.pop() {
-        Some(Change::PutSchedule(row)) => {
-            schedules.clear();
-            schedules.push(row.into_inner())?;
-            Ok(changes.is_empty())
-        }
-        _ => Ok(false),
-    }
-}
-
-fn fail(origin: &mut Tables, there: &Tables, moment: u64) -> Result<bool, Fail> {
+fn fail(origin: &mut PreparedStore, there: &PreparedStore, moment: u64) -> Result<(), Fail> {
     let arriving = calls::arrived(origin, there, 1, moment)?;
-    put(&mut origin.schedules, arriving.origin)
+    Ok(commit(origin, arriving.origin)?)
 }
 
-fn is_waiting(origin: &Tables, next: u64) -> bool {
+fn is_waiting(origin: &PreparedStore, next: u64) -> bool {
     calls::picked(origin, next.saturating_sub(1)).is_none()
 }
 
-fn comes(origin: &Tables, next: u64) -> bool {
+fn comes(origin: &PreparedStore, next: u64) -> bool {
     calls::picked(origin, next).is_some()
 }
 
 // Fails once more, and tells whether nothing is sent before that moment, and then something, unless it was the last failure.
 fn goes_on(
-    origin: &mut Tables,
-    there: &Tables,
+    origin: &mut PreparedStore,
+    there: &PreparedStore,
     row: &Failure,
     is_last: bool,
 ) -> Result<bool, Fail> {
-    let is_put = fail(origin, there, row.0)?;
-    Ok(is_put && is_waiting(origin, row.1) && comes(origin, row.1) != is_last)
+    fail(origin, there, row.0)?;
+    Ok(is_waiting(origin, row.1) && comes(origin, row.1) != is_last)
 }
 
 fn check_failures(
     rt: &impl Abort,
-    origin: &mut Tables,
-    there: &Tables,
+    origin: &mut PreparedStore,
+    there: &PreparedStore,
     all: &[Failure],
 ) -> Result<(), Fail> {
     for row in all {

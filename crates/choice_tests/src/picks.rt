@@ -1,33 +1,10 @@
 // Which slot is sent at which moment.
 use crate::calls;
-use crate::rows::{self, ALWAYS, MessageOf, Plan};
-use payload_records::List;
-use queue_rows::{MsgRow, ScheduleRow, SlotState, Tables};
-use row_tree::Tree;
+use crate::rows::{ALWAYS, Home, MessageOf, Plan, ScheduleTo, store_of};
+use queue_rows::SlotState;
 use std::alloc::Global;
 use std::process::Abort;
 use std::test::Fail;
-
-fn add_messages(messages: &mut Tree<MsgRow>, alloc: Global, all: &[MessageOf]) -> Result<(), Fail> {
-    for row in all {
-        messages.append(alloc, rows::message(alloc, row)?)?;
-    }
-    Ok(())
-}
-
-// Where a schedule of the queue `mq` sends to, and when.
-type ScheduleTo = (&'static str, Plan);
-
-fn add_schedules(
-    schedules: &mut List<ScheduleRow>,
-    alloc: Global,
-    all: &[ScheduleTo],
-) -> Result<(), Fail> {
-    for row in all {
-        schedules.push(rows::schedule(alloc, row.0, row.1)?)?;
-    }
-    Ok(())
-}
 
 // ---- when a schedule sends
 
@@ -125,24 +102,19 @@ const TIMES: [Time; 39] = [
     (EACH_7_OF_20, 25, 31, true),
 ];
 
-const SEVEN: MessageOf = (7, "mq", 0, &[("inq", SlotState::Ready, 0)]);
-
-fn add_since(messages: &mut Tree<MsgRow>, alloc: Global, at: u64) -> Result<(), Fail> {
-    let mut message = rows::message(alloc, &SEVEN)?;
-    message.set_slot_state(1, SlotState::Ready, at);
-    messages.append(alloc, message)?;
-    Ok(())
-}
-
-fn add_time(tables: &mut Tables, alloc: Global, row: &Time) -> Result<(), Fail> {
-    add_since(&mut tables.messages, alloc, row.1)?;
-    add_schedules(&mut tables.schedules, alloc, &[("inq", row.0)])
+// Whether the slot of the message 7, ready since then, is picked.
+fn is_picked(alloc: Global, plan: Plan, since: u64, moment: u64) -> Result<bool, Fail> {
+    let home = Home {
+        retention: 0,
+        schedules: &[("inq", plan)],
+        messages: &[(7, "mq", 0, &[("inq", SlotState::Ready, since, 99)])],
+    };
+    let store = store_of(alloc, &home)?;
+    Ok(calls::picked(&store, moment).is_some())
 }
 
 fn is_right(alloc: Global, row: &Time) -> Result<bool, Fail> {
-    let mut tables = Tables::new(alloc);
-    add_time(&mut tables, alloc, row)?;
-    Ok(calls::picked(&tables, row.2).is_some() == row.3)
+    Ok(is_picked(alloc, row.0, row.1, row.2)? == row.3)
 }
 
 fn check_times(rt: &impl Abort, alloc: Global, all: &[Time]) -> Result<(), Fail> {
@@ -160,11 +132,15 @@ fn a_schedule_sends_in_its_time(rt: HostRuntime) -> Result<(), Fail> {
 // ---- which of them
 
 // The schedules, the messages, and the message and the slot that are sent; 0 where none is.
-type Choice = (&'static [ScheduleTo], &'static [MessageOf], (u64, u32));
+type Choice = (
+    &'static [ScheduleTo<'static>],
+    &'static [MessageOf<'static>],
+    (u64, u32),
+);
 
-const TO_INQ: &[ScheduleTo] = &[("inq", ALWAYS)];
+const TO_INQ: &[ScheduleTo<'static>] = &[("inq", ALWAYS)];
 
-const TO_BOTH: &[ScheduleTo] = &[("inq", ALWAYS), ("xq", ALWAYS)];
+const TO_BOTH: &[ScheduleTo<'static>] = &[("inq", ALWAYS), ("xq", ALWAYS)];
 
 const CHOICES: [Choice; 9] = [
     (TO_INQ, &[], (0, 0)),
@@ -172,9 +148,9 @@ const CHOICES: [Choice; 9] = [
     (
         TO_INQ,
         &[
-            (1, "mq", 9, &[("inq", SlotState::Ready, 1)]),
-            (2, "mq", 5, &[("inq", SlotState::Ready, 1)]),
-            (3, "mq", 7, &[("inq", SlotState::Ready, 1)]),
+            (1, "mq", 9, &[("inq", SlotState::Ready, 1, 99)]),
+            (2, "mq", 5, &[("inq", SlotState::Ready, 1, 99)]),
+            (3, "mq", 7, &[("inq", SlotState::Ready, 1, 99)]),
         ],
         (2, 1),
     ),
@@ -182,9 +158,9 @@ const CHOICES: [Choice; 9] = [
     (
         TO_INQ,
         &[
-            (1, "mq", 9, &[("inq", SlotState::Ready, 1)]),
-            (2, "mq", 5, &[("inq", SlotState::Waiting, 1)]),
-            (3, "mq", 6, &[("inq", SlotState::Processed, 1)]),
+            (1, "mq", 9, &[("inq", SlotState::Ready, 1, 99)]),
+            (2, "mq", 5, &[("inq", SlotState::Waiting, 1, 99)]),
+            (3, "mq", 6, &[("inq", SlotState::Processed, 1, 99)]),
         ],
         (1, 1),
     ),
@@ -196,11 +172,11 @@ const CHOICES: [Choice; 9] = [
             "mq",
             9,
             &[
-                ("", SlotState::Ready, 1),
-                ("xq", SlotState::Ready, 1),
-                ("inq", SlotState::Expired, 1),
-                ("inq", SlotState::Ready, 1),
-                ("inq", SlotState::Ready, 1),
+                ("", SlotState::Ready, 1, 99),
+                ("xq", SlotState::Ready, 1, 99),
+                ("inq", SlotState::Expired, 1, 99),
+                ("inq", SlotState::Ready, 1, 99),
+                ("inq", SlotState::Ready, 1, 99),
             ],
         )],
         (1, 4),
@@ -208,50 +184,49 @@ const CHOICES: [Choice; 9] = [
     // a message of another queue
     (
         TO_INQ,
-        &[(1, "nq", 9, &[("inq", SlotState::Ready, 1)])],
+        &[(1, "nq", 9, &[("inq", SlotState::Ready, 1, 99)])],
         (0, 0),
     ),
     // the first schedule goes before the least place
     (
         TO_BOTH,
         &[
-            (1, "mq", 5, &[("xq", SlotState::Ready, 1)]),
-            (2, "mq", 9, &[("inq", SlotState::Ready, 1)]),
+            (1, "mq", 5, &[("xq", SlotState::Ready, 1, 99)]),
+            (2, "mq", 9, &[("inq", SlotState::Ready, 1, 99)]),
         ],
         (2, 1),
     ),
     // the second one sends where the first has nothing to send
     (
         TO_BOTH,
-        &[(1, "mq", 5, &[("xq", SlotState::Ready, 1)])],
+        &[(1, "mq", 5, &[("xq", SlotState::Ready, 1, 99)])],
         (1, 1),
     ),
     // or is not open
     (
         &[("inq", DISABLED), ("xq", ALWAYS)],
         &[
-            (1, "mq", 5, &[("inq", SlotState::Ready, 1)]),
-            (2, "mq", 9, &[("xq", SlotState::Ready, 1)]),
+            (1, "mq", 5, &[("inq", SlotState::Ready, 1, 99)]),
+            (2, "mq", 9, &[("xq", SlotState::Ready, 1, 99)]),
         ],
         (2, 1),
     ),
     // no schedule goes there
     (
         TO_BOTH,
-        &[(1, "mq", 5, &[("", SlotState::Ready, 1)])],
+        &[(1, "mq", 5, &[("", SlotState::Ready, 1, 99)])],
         (0, 0),
     ),
 ];
 
-fn add_choice(tables: &mut Tables, alloc: Global, row: &Choice) -> Result<(), Fail> {
-    add_messages(&mut tables.messages, alloc, row.1)?;
-    add_schedules(&mut tables.schedules, alloc, row.0)
-}
-
 fn chosen(alloc: Global, row: &Choice) -> Result<(u64, u32), Fail> {
-    let mut tables = Tables::new(alloc);
-    add_choice(&mut tables, alloc, row)?;
-    Ok(calls::picked(&tables, 50).unwrap_or((0, 0)))
+    let home = Home {
+        retention: 0,
+        schedules: row.0,
+        messages: row.1,
+    };
+    let store = store_of(alloc, &home)?;
+    Ok(calls::picked(&store, 50).unwrap_or((0, 0)))
 }
 
 fn is_chosen(alloc: Global, row: &Choice) -> Result<bool, Fail> {

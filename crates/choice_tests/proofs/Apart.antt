@@ -6,7 +6,7 @@ use Rattle.std.proofs.lemmas.Bool.Decides.{nat_tests}
 use Rattle.queue_rows.specs.Distinct.{are_distinct}
 use Rattle.queue_rows.specs.Valid.{is_same_message}
 use Rattle.queue_rows.specs.declared.rows.MsgRow.{MsgRow}
-use Rattle.due_tests.specs.Kept.{differ, are_few}
+use Rattle.choice_tests.specs.Few.{differ, are_few}
 
 two : (b : Bool) → not b ≡ true → (not (b || false) && (not false && true)) ≡ true
 two true e = e

@@ -96,6 +96,8 @@ fn put_change(out: &mut String, change: &Change) -> Result<(), AllocError> {
         Change::Enqueued(row) => put_message(out, row.get()),
         Change::Seen(row) => put_seen(out, row),
         Change::PutSchedule(row) => put_schedule(out, row.get()),
+        Change::Ready { id, slot, at } => write!(out, "ready {id}.{slot} at {at};"),
+        Change::Expired { id, slot, at } => write!(out, "expired {id}.{slot} at {at};"),
         Change::Done { id, slot, at } => write!(out, "done {id}.{slot} at {at};"),
         Change::Moved { id, queue, at } => put_moved(out, *id, queue.as_str(), *at),
         Change::Purged { id } => write!(out, "purged {id};"),
