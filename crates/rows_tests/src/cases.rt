@@ -13,9 +13,12 @@ use valid_tables::{is_valid, names_what_is_there};
 const MOMENT: u64 = 4;
 
 fn name_what_is_there(store: &Store, changes: &List<Change>) -> bool {
-    changes
-        .iter()
-        .all(|change| names_what_is_there(store, change))
+    for change in changes {
+        if !names_what_is_there(store, change) {
+            return false;
+        }
+    }
+    true
 }
 
 fn are_local(store: &Store, changes: &List<Change>) -> Result<bool, AllocError> {
