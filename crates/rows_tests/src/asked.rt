@@ -1,168 +1,124 @@
-// Changes, as the cases name them.
-use crate::rows;
-use payload_records::{Boxed, List, Name, NameFault};
-use queue_rows::{Change, QueueKind};
-use std::alloc::Global;
+// What is asked for, at random.
+use crate::any_rows::{any_name, below};
+use message_choice::Pick;
+use payload_records::{List, Name, Text};
+use place_keys::Place;
+use queue_rows::{Mode, Navigation, Position, QueueRow, TableRow};
+use rule_conditions::{Atom, Cond, Product, Sum, Term};
+use std::alloc::{AllocError, Global};
+use std::test::Fail;
 
-/// A change; what it does to a slot it does to slot 1, at the moment 4 where none is named.
-#[derive(Clone, Copy)]
-pub(crate) enum Asked {
-    /// The queue table of that name.
-    Table(&'static str),
-    /// The queue table goes.
-    NoTable(&'static str),
-    /// A queue of that name of the table `t`, and whether it is an exception queue.
-    Queue(&'static str, bool),
-    /// The like of the table `u`.
-    Other(&'static str, bool),
-    /// The queue `q` with so many retries, and with the lowest lane -1.
-    Allows(u64),
-    /// The queue goes.
-    NoQueue(&'static str),
-    /// A subscriber of the queue.
-    Sub(&'static str),
-    /// A schedule of the queue, and how often it failed.
-    Schedule(&'static str, u64),
-    /// A message, its queue, and its lane.
-    Message(u32, &'static str, i64),
-    /// So many retries of a message.
-    Retried(u64, u64),
-    /// A first retry of a message waits until 20.
-    Waits(u64),
-    /// A slot of a message is taken at that moment.
-    Done(u64, u64, u64),
-    /// A message expires.
-    Expired(u64),
-    /// A message moves to the queue at that moment.
-    Moved(u64, &'static str, u64),
-    /// A message goes.
-    Purged(u64),
-    /// A slot was seen that came as the message of that number.
-    Seen(u64),
-    /// The next number.
-    Next(u64),
+/// What the parts of a pick that are lent are lent from.
+pub struct Asked {
+    consumer: Option<Name>,
+    position: Option<Position>,
+    corr: Option<Text>,
+    condition: Option<Cond>,
 }
 
-fn put_queue(
-    alloc: Global,
-    table: &str,
-    name: &str,
-    is_exception: bool,
-) -> Result<Change, NameFault> {
-    let kind = if is_exception {
-        QueueKind::Exception
-    } else {
-        QueueKind::Normal
+impl Drop for Asked {
+    fn drop(self) {
+        let Self {
+            consumer: _,
+            position: _,
+            corr: _,
+            condition: _,
+        } = self;
+    }
+}
+
+fn any_position(seed: &mut u32, alloc: Global) -> Result<Option<Position>, Fail> {
+    if below(seed, 3) == 0 {
+        return Ok(None);
+    }
+    let group = below(seed, 4);
+    let queue = Name::read(alloc, "q")?;
+    let numbers = [i64::from(below(seed, 3))];
+    let place = Place::of(alloc, i64::from(group), &numbers, u64::from(below(seed, 9)))?;
+    Ok(Some(Position {
+        queue,
+        consumer: None,
+        place,
+        group: u64::from(group),
+    }))
+}
+
+fn any_pattern(seed: &mut u32, alloc: Global) -> Result<Option<Text>, AllocError> {
+    let text = match below(seed, 4) {
+        0 => "a%",
+        1 => "%b",
+        _ => return Ok(None),
     };
-    let row = rows::queue(alloc, table, name, kind)?;
-    Ok(Change::PutQueue(Boxed::new(alloc, row)?))
+    Ok(Some(Text::of(alloc, text)?))
 }
 
-fn no_table(alloc: Global, name: &str) -> Result<Change, NameFault> {
-    Ok(Change::DropTable(Name::read(alloc, name)?))
+fn corr(alloc: Global) -> Result<Sum, AllocError> {
+    let mut atoms = List::new(alloc);
+    atoms.push(Atom::Corr)?;
+    let product = Product { atoms };
+    let mut terms = List::new(alloc);
+    terms.push(Term {
+        minus: false,
+        product,
+    })?;
+    Ok(Sum { terms })
 }
 
-fn no_queue(alloc: Global, name: &str) -> Result<Change, NameFault> {
-    Ok(Change::DropQueue(Name::read(alloc, name)?))
-}
-
-fn moved(alloc: Global, id: u64, queue: &str, at: u64) -> Result<Change, NameFault> {
-    let queue = Name::read(alloc, queue)?;
-    Ok(Change::Moved { id, queue, at })
-}
-
-fn retried(id: u64, retries: u64, until: Option<u64>) -> Change {
-    Change::Retried {
-        id,
-        slot: 1,
-        retries,
-        until,
-        at: 4,
+// Whether the correlation is null, or is not.
+fn any_condition(seed: &mut u32, alloc: Global) -> Result<Option<Cond>, AllocError> {
+    if below(seed, 3) == 0 {
+        Ok(Some(Cond::IsNull(corr(alloc)?, below(seed, 2) == 0)))
+    } else {
+        Ok(None)
     }
 }
 
-fn next(next: u64) -> Change {
-    Change::Counters {
-        next,
-        transaction: 2,
-        latest: 4,
+/// What is lent to a pick.
+pub fn any_asked(seed: &mut u32, alloc: Global) -> Result<Asked, Fail> {
+    let consumer = any_name(seed, alloc)?;
+    let position = any_position(seed, alloc)?;
+    let corr = any_pattern(seed, alloc)?;
+    let condition = any_condition(seed, alloc)?;
+    Ok(Asked {
+        consumer,
+        position,
+        corr,
+        condition,
+    })
+}
+
+fn any_mode(seed: &mut u32) -> Mode {
+    match below(seed, 4) {
+        0 => Mode::Browse,
+        1 => Mode::Locked,
+        2 => Mode::RemoveNodata,
+        _ => Mode::Remove,
     }
 }
 
-fn plain(asked: Asked) -> Option<Change> {
-    match asked {
-        Asked::Retried(id, retries) => Some(retried(id, retries, None)),
-        Asked::Waits(id) => Some(retried(id, 1, Some(20))),
-        Asked::Done(id, slot, at) => Some(Change::Done { id, slot, at }),
-        Asked::Expired(id) => Some(Change::Expired { id, slot: 1, at: 4 }),
-        Asked::Purged(id) => Some(Change::Purged { id }),
-        Asked::Seen(copy) => Some(Change::Seen(rows::seen(copy))),
-        Asked::Next(number) => Some(next(number)),
-        _ => None,
+fn any_navigation(seed: &mut u32) -> Navigation {
+    match below(seed, 3) {
+        0 => Navigation::First,
+        1 => Navigation::Next,
+        _ => Navigation::NextTransaction,
     }
 }
 
-fn put_table(alloc: Global, name: &str) -> Result<Change, NameFault> {
-    let row = rows::table(alloc, name)?;
-    Ok(Change::PutTable(Boxed::new(alloc, row)?))
-}
-
-fn put_retrying(alloc: Global, retries: u64) -> Result<Change, NameFault> {
-    let row = rows::retrying(alloc, retries)?;
-    Ok(Change::PutQueue(Boxed::new(alloc, row)?))
-}
-
-fn of_queues(alloc: Global, asked: Asked) -> Result<Option<Change>, NameFault> {
-    match asked {
-        Asked::Table(name) => Ok(Some(put_table(alloc, name)?)),
-        Asked::NoTable(name) => Ok(Some(no_table(alloc, name)?)),
-        Asked::Queue(name, is_exception) => Ok(Some(put_queue(alloc, "t", name, is_exception)?)),
-        Asked::Other(name, is_exception) => Ok(Some(put_queue(alloc, "u", name, is_exception)?)),
-        Asked::Allows(retries) => Ok(Some(put_retrying(alloc, retries)?)),
-        Asked::NoQueue(name) => Ok(Some(no_queue(alloc, name)?)),
-        _ => Ok(None),
+/// A pick of what was asked for in that queue and table, with any mode and navigation.
+pub fn any_pick<'a>(
+    seed: &mut u32,
+    asked: &'a Asked,
+    queue: &'a QueueRow,
+    table: &'a TableRow,
+) -> Pick<'a> {
+    Pick {
+        queue,
+        table,
+        consumer: asked.consumer.as_ref(),
+        mode: any_mode(seed),
+        navigation: any_navigation(seed),
+        position: asked.position.as_ref(),
+        corr: asked.corr.as_ref(),
+        condition: asked.condition.as_ref(),
     }
-}
-
-fn put(alloc: Global, asked: Asked) -> Result<Change, NameFault> {
-    match asked {
-        Asked::Sub(queue) => {
-            let row = rows::sub(alloc, queue)?;
-            Ok(Change::PutSub(Boxed::new(alloc, row)?))
-        }
-        Asked::Schedule(queue, failures) => {
-            let row = rows::schedule(alloc, queue, failures)?;
-            Ok(Change::PutSchedule(Boxed::new(alloc, row)?))
-        }
-        Asked::Message(id, queue, lane) => {
-            let row = rows::message(alloc, id, queue, lane)?;
-            Ok(Change::Enqueued(Boxed::new(alloc, row)?))
-        }
-        Asked::Moved(id, queue, at) => moved(alloc, id, queue, at),
-        _ => Err(NameFault::Bad),
-    }
-}
-
-fn change(alloc: Global, asked: Asked) -> Result<Change, NameFault> {
-    if let Some(change) = plain(asked) {
-        return Ok(change);
-    }
-    match of_queues(alloc, asked)? {
-        Some(change) => Ok(change),
-        None => put(alloc, asked),
-    }
-}
-
-fn add_changes(changes: &mut List<Change>, alloc: Global, all: &[Asked]) -> Result<(), NameFault> {
-    for asked in all {
-        changes.push(change(alloc, *asked)?)?;
-    }
-    Ok(())
-}
-
-/// The changes that are asked for.
-pub(crate) fn changes(alloc: Global, all: &[Asked]) -> Result<List<Change>, NameFault> {
-    let mut changes = List::new(alloc);
-    add_changes(&mut changes, alloc, all)?;
-    Ok(changes)
 }
