@@ -10,9 +10,9 @@ use Rattle.aq_world.specs.Clocked.{Clocked, IsClosing, IsTurn}
 use Rattle.aq_world.specs.Turning.{turned, reads_clock, is_owed, IsBrokenOff, IsUndone, broken_if, IsOfRun, IsWhole}
 use Rattle.aq_world.specs.declared.turn_end.TurnEnd.{TurnEnd}
 use Rattle.aq_world.specs.declared.turn_end.TurnEnd.TheVariants as ends
-use Rattle.durable_state.specs.Held.{Held, HasFailed}
-use Rattle.durable_state.specs.declared.broken.Broken.{Broken}
-use Rattle.durable_state.specs.declared.broken.Broken.TheVariants as breaks
+use Rattle.aq_world.specs.Held.{Held, HasFailed}
+use Rattle.aq_world.specs.Broken.{Broken}
+use Rattle.aq_world.specs.Broken.TheVariants as breaks
 use Rattle.aq_run.specs.Passing.{EndsBy}
 use Rattle.aq_world.proofs.OfRun.{of_run-refl, of_run-trans, of_run-along, of_run-read, of_run-begun, of_run-flushed, of_run-drained, of_run-session_turn, of_run-timer_turn, of_run-propagator_turn}
 

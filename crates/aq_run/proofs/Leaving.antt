@@ -1,8 +1,8 @@
 -- What a call that reached no run leaves of its disks.
 use Rattle.std.proofs.Common.{◌≡◌, ◌⊎◌, inl, inr, ◌≤◌, ℕ, List, [], Option, sym, ap, subst, ◌∙◌, arith}
 use Rattle.aq_base.specs.declared.DbId.TheVariants.{Home, Away}
-use Rattle.durable_state.specs.Held.{Held, HasFailed}
-use Rattle.durable_state.specs.Survival.{Survives}
+use Rattle.aq_world.specs.Held.{Held, HasFailed}
+use Rattle.aq_world.specs.Survival.{Survives}
 use Rattle.aq_world.specs.Mounting.{RecoversTo, KeepsRecovered, HasMountCause}
 use Rattle.aq_world.specs.declared.mount.MountCause.{MountCause}
 use Rattle.aq_world.specs.declared.mount.MountCause.TheVariants.{Fault, Damaged, Memory}

@@ -2,7 +2,7 @@
 use Rattle.std.proofs.Common.{ℕ, List, Option}
 use Rattle.aq_world.specs.Clocked.{Clocked}
 use Rattle.aq_world.proofs.OfRun.{of_run-refl, of_run-trans}
-use Rattle.durable_state.specs.Going.{goes_same, goes_on}
+use Rattle.aq_world.specs.RunGoing.{goes_same, goes_on}
 use Rattle.aq_run.specs.Passing.{Passes}
 
 module _ {D C : Type 0} (seen : D → Option (List ℕ)) (images : D → ℕ → List ℕ → Type 0) (calls faults : D → ℕ) (given : C → Option (List ℕ)) (plan : C → Option (ℕ → ℕ)) where

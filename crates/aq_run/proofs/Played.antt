@@ -6,23 +6,23 @@ use Rattle.aq_base.specs.declared.DbId.TheVariants.{Home, Away}
 use Rattle.queue_rows.specs.World.{uncounted}
 use Rattle.queue_rows.specs.declared.history.History.{History}
 use Rattle.queue_rows.specs.declared.history.SessionScript.{SessionScript}
-use Rattle.world_laws.specs.WorldLaws.{MayBegin}
-use Rattle.fate_laws.specs.Made.{commits_of, opening_of}
-use Rattle.history_fates.specs.Durability.{made, durable}
-use Rattle.durable_state.specs.Sound.{IsSound}
+use Rattle.history_laws.specs.WorldLaws.{MayBegin}
+use Rattle.history_laws.specs.Made.{commits_of, opening_of}
+use Rattle.history_laws.specs.Durability.{made, durable}
+use Rattle.aq_world.specs.RecoveredSound.{IsSound}
 use Rattle.queue_rows.specs.Legal.{IsLegalHistory}
 use Rattle.queue_rows.specs.Serial.{AreSerial, IsSerial, IsSerialFront, IsOnTheWay}
 use Rattle.run_turns.specs.Laws.{IsAllDone, SerialCallsAll, SerialFrontIsLegal, SerialIsDone, SerialIsLegal, LegalCallsInOrder}
 use Rattle.run_fates.specs.DurableRun.{SerialIsDurable}
 use Rattle.run_spellings.specs.SpellableRun.{HasSpellableRows, have_text_rules}
 use Rattle.run_spellings.specs.SpellingLaws.{LegalCommitsSpell, SoundIsSpellable}
-use Rattle.durable_state.specs.Entries.{BeginsAs}
-use Rattle.durable_state.specs.Logged.{AreLoggable}
-use Rattle.durable_state.specs.Going.{Goes}
-use Rattle.durable_state.specs.Held.{Held, HasFailed}
-use Rattle.durable_state.specs.Survival.{Survives}
-use Rattle.durable_state.specs.declared.broken.Broken.{Broken}
-use Rattle.durable_state.specs.declared.broken.Broken.TheVariants as breaks
+use Rattle.aq_world.specs.Entries.{BeginsAs}
+use Rattle.aq_world.specs.Logged.{AreLoggable}
+use Rattle.aq_world.specs.RunGoing.{Goes}
+use Rattle.aq_world.specs.Held.{Held, HasFailed}
+use Rattle.aq_world.specs.Survival.{Survives}
+use Rattle.aq_world.specs.Broken.{Broken}
+use Rattle.aq_world.specs.Broken.TheVariants as breaks
 use Rattle.aq_world.specs.Mounting.{RecoversTo}
 use Rattle.aq_world.specs.Turning.{IsOfRun}
 use Rattle.aq_run.specs.Disks.{SurvivesCall, LeavesWhole, FailsEither, FailsNeither}

@@ -10,11 +10,11 @@ use Rattle.queue_rows.specs.World.{uncounted, opening_moment, World, opened}
 use Rattle.queue_rows.specs.declared.history.History.{History}
 use Rattle.queue_rows.specs.declared.history.SessionScript.{SessionScript}
 use Rattle.queue_rows.specs.declared.tables.Tables.{Tables}
-use Rattle.world_laws.specs.ValidWorld.{AreScripts}
-use Rattle.world_laws.specs.WorldLaws.{MayBegin}
+use Rattle.history_laws.specs.ValidWorld.{AreScripts}
+use Rattle.history_laws.specs.WorldLaws.{MayBegin}
 use Rattle.queue_rows.specs.Legal.{IsLegalHistory, opens}
 use Rattle.run_turns.proofs.Calling.{session-opened, scripts-opened, entries-opened}
-use Rattle.durable_state.specs.Entries.{BeginsAs}
+use Rattle.aq_world.specs.Entries.{BeginsAs}
 use Rattle.aq_world.specs.Turning.{IsOfRun}
 use Rattle.aq_run.specs.Progress.{AreAt, AreTold}
 use Rattle.aq_run.specs.Serve.{empty_history}

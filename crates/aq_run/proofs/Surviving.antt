@@ -8,16 +8,16 @@ use Rattle.aq_base.specs.declared.DbId.TheVariants.{Home, Away}
 use Rattle.queue_rows.specs.declared.tables.Tables.{Tables}
 use Rattle.queue_rows.specs.declared.history.Entry.{Entry}
 use Rattle.queue_rows.specs.declared.history.History.{History}
-use Rattle.fate_laws.specs.Made.{commits_of, after_commits, opening_of, tables_after}
-use Rattle.history_fates.specs.Durability.{made, durable}
+use Rattle.history_laws.specs.Made.{commits_of, after_commits, opening_of, tables_after}
+use Rattle.history_laws.specs.Durability.{made, durable}
 use Rattle.redo_journal.specs.Journaled.{Journaled}
 use Rattle.redo_journal.specs.Runs.{IsDiskSettled}
 use Rattle.redo_records.specs.Recovered.{recovered}
-use Rattle.durable_state.specs.Logged.{AreLoggable}
-use Rattle.durable_state.specs.Crash.{Run, RecoversFirst, SurvivesCrash}
-use Rattle.durable_state.specs.Entries.{BeginsAs}
-use Rattle.durable_state.specs.Held.{Held}
-use Rattle.durable_state.specs.Survival.{run_at, LogsRun, SurvivesAt}
+use Rattle.aq_world.specs.Logged.{AreLoggable}
+use Rattle.aq_world.specs.Crash.{Run, RecoversFirst, SurvivesCrash}
+use Rattle.aq_world.specs.Entries.{BeginsAs}
+use Rattle.aq_world.specs.Held.{Held}
+use Rattle.aq_world.specs.Survival.{run_at, LogsRun, SurvivesAt}
 use Rattle.aq_world.specs.Mounting.{RecoversTo, KeepsRecovered}
 use Rattle.aq_run.specs.Disks.{run_of, SurvivesCall, LeavesWhole}
 

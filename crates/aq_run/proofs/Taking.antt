@@ -7,10 +7,10 @@ use Rattle.queue_rows.specs.Serial.{each}
 use Rattle.queue_rows.specs.Turns.{next_reading}
 use Rattle.queue_rows.specs.World.{World}
 use Rattle.run_turns.proofs.Growing.{Grows}
-use Rattle.durable_state.specs.Going.{Goes}
-use Rattle.durable_state.specs.Held.{HasFailed}
-use Rattle.durable_state.specs.declared.broken.Broken.{Broken}
-use Rattle.durable_state.specs.declared.broken.Broken.TheVariants as breaks
+use Rattle.aq_world.specs.RunGoing.{Goes}
+use Rattle.aq_world.specs.Held.{HasFailed}
+use Rattle.aq_world.specs.Broken.{Broken}
+use Rattle.aq_world.specs.Broken.TheVariants as breaks
 use Rattle.aq_world.specs.Clocked.{Clocked, IsTurn}
 use Rattle.aq_world.specs.Turning.{turned, IsOfRun, IsWhole}
 use Rattle.aq_world.specs.declared.turn_end.TurnEnd.{TurnEnd}

@@ -5,9 +5,9 @@ use Rattle.aq_base.specs.declared.DbId.{DbId}
 use Rattle.aq_base.specs.declared.DbId.TheVariants.{Home, Away}
 use Rattle.aq_disk.specs.Causes.{Rose}
 use Rattle.queue_rows.specs.declared.history.History.{History}
-use Rattle.fate_laws.specs.Made.{opening_of, tables_after}
+use Rattle.history_laws.specs.Made.{opening_of, tables_after}
 use Rattle.redo_journal.specs.Runs.{IsDiskSettled}
-use Rattle.durable_state.specs.Crash.{Run, SurvivesCrash}
+use Rattle.aq_world.specs.Crash.{Run, SurvivesCrash}
 use Rattle.aq_world.specs.Mounting.{RecoversTo, IsRecovered, IsDamagedAt, KeepsRecovered, HasMountCause}
 use Rattle.aq_world.specs.declared.mount.MountCause.{MountCause}
 use Rattle.aq_world.specs.declared.mount.MountCause.TheVariants.{Fault, Damaged, Memory}

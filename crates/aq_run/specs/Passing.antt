@@ -5,10 +5,10 @@ use Rattle.queue_rows.specs.Order.{IsFront}
 use Rattle.queue_rows.specs.World.{World}
 use Rattle.aq_world.specs.Clocked.{Clocked}
 use Rattle.aq_world.specs.Turning.{IsOfRun}
-use Rattle.durable_state.specs.Held.{Held, HasFailed}
-use Rattle.durable_state.specs.Going.{Goes}
-use Rattle.durable_state.specs.declared.broken.Broken.{Broken}
-use Rattle.durable_state.specs.declared.broken.Broken.TheVariants.{Halted}
+use Rattle.aq_world.specs.Held.{Held, HasFailed}
+use Rattle.aq_world.specs.RunGoing.{Goes}
+use Rattle.aq_world.specs.Broken.{Broken}
+use Rattle.aq_world.specs.Broken.TheVariants.{Halted}
 
 -- the clock is that of the serial schedule: it counts seconds from the opening moment, and tells its readings
 pub record IsSerialClock {D C : Type 0} (given : C → Option (List ℕ)) (plan : C → Option (ℕ → ℕ)) (w : Clocked D C) : Type 0 where

@@ -17,12 +17,12 @@ use Rattle.queue_rows.specs.declared.history.History.{History}
 use Rattle.queue_rows.specs.declared.history.SessionScript.{SessionScript}
 use Rattle.queue_rows.specs.declared.history.SlotRef.{SlotRef}
 use Rattle.queue_rows.specs.declared.tables.Tables.{Tables}
-use Rattle.world_laws.specs.WorldLaws.{MayBegin}
-use Rattle.fate_laws.specs.Lasting.{HasFates}
-use Rattle.fate_laws.specs.Made.{commits_of, opening_of}
-use Rattle.history_fates.specs.Arrivals.{IsSeenOnce, HasArrivals}
-use Rattle.history_fates.specs.Durability.{made, durable, ToldIsDurable}
-use Rattle.history_fates.specs.LegalFates.{all_fit}
+use Rattle.history_laws.specs.WorldLaws.{MayBegin}
+use Rattle.history_laws.specs.Lasting.{HasFates}
+use Rattle.history_laws.specs.Made.{commits_of, opening_of}
+use Rattle.history_laws.specs.Arrivals.{IsSeenOnce, HasArrivals}
+use Rattle.history_laws.specs.Durability.{made, durable, ToldIsDurable}
+use Rattle.history_laws.specs.LegalFates.{all_fit}
 use Rattle.run_fates.specs.DurableRun.{ConfirmedIsSeen, CopiedIsDurable}
 use Rattle.redo_records.specs.Recovered.{recovered}
 use Rattle.script_text.specs.Script.{script}
@@ -31,8 +31,8 @@ use Rattle.transcript.specs.Print.{print}
 use Rattle.aq_world.specs.Mounting.{RecoversTo, IsRecovered, KeepsRecovered}
 use Rattle.aq_world.specs.declared.mount.MountCause.{MountCause}
 use Rattle.aq_world.specs.declared.mount.MountCause.TheVariants as causes
-use Rattle.durable_state.specs.declared.broken.Broken.{Broken}
-use Rattle.durable_state.specs.declared.broken.Broken.TheVariants as breaks
+use Rattle.aq_world.specs.Broken.{Broken}
+use Rattle.aq_world.specs.Broken.TheVariants as breaks
 use Rattle.aq_run.specs.Disks.{SurvivesCall, LeavesWhole, IsFirstDamaged, FailsEither, FailsNeither}
 use Rattle.aq_run.specs.declared.command.Command.{Command}
 use Rattle.aq_run.specs.declared.command.Command.TheVariants.{RunSerial}

@@ -7,8 +7,7 @@ ghost use Rattle.aq_run.specs.Serve.{LegalHolds, PlaysOver, end_of};
 use crate::rounds::run;
 use aq_clock::StepClock;
 use aq_disk::Disk;
-use aq_world::{Finished, MountFault, World};
-use durable_state::Broken;
+use aq_world::{Broken, Finished, MountFault, World};
 use payload_records::List;
 use queue_rows::{History, SessionScript};
 use run_fates::{

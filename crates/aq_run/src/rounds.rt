@@ -1,6 +1,6 @@
 // The rounds of the serial schedule.
 ghost use Rattle.std.specs.Prelude.{◌≡◌, ◌≤◌, ◌<◌, ◌^◌, ◌+◌, length, OnOk, OnErr, IfErr};
-ghost use Rattle.world_laws.specs.ValidWorld.{AreScripts};
+ghost use Rattle.history_laws.specs.ValidWorld.{AreScripts};
 ghost use Rattle.queue_rows.specs.Serial.{next_session_turn, next_timer_turn, next_propagator_turn};
 ghost use Rattle.queue_rows.specs.Serial.{session_turns, telling_turns, round, AreSerial, IsOnTheWay};
 ghost use Rattle.queue_rows.specs.Turns.{next_reading, telling_turn};
@@ -11,8 +11,7 @@ ghost use Rattle.aq_run.specs.Rounds.{IsClosed};
 
 use aq_clock::Clock;
 use aq_disk::Disk;
-use aq_world::{TurnEnd, World};
-use durable_state::Broken;
+use aq_world::{Broken, TurnEnd, World};
 
 /// The number of the timer among the actors.
 const TIMER: u32 = 64;

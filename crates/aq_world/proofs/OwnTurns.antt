@@ -1,5 +1,5 @@
 -- A session's own turn is what its step makes of the world.
-use Rattle.std.proofs.Common.{◌≡◌, ℕ, Option, Some, None, sym, ap, subst, ◌∙◌}
+use Rattle.std.proofs.Common.{◌≡◌, ℕ, Option, Some, None, sym, ap, ◌∙◌}
 use Rattle.std.specs.Prelude.{IfSome, option_map}
 use Rattle.queue_rows.specs.Session.{Session}
 use Rattle.queue_rows.specs.Statements.{meaning, next_statement}
@@ -7,18 +7,15 @@ use Rattle.queue_rows.specs.Turns.{ended, own_turn, parked, turned_by}
 use Rattle.queue_rows.specs.World.{World}
 use Rattle.run_state.specs.CallEffects.{called_with}
 use Rattle.run_state.specs.declared.call_effect.CallEffect.{CallEffect}
-use Rattle.aq_world.specs.Stepping.{Means}
+use Rattle.next_steps.specs.Stepping.{Means}
 use Rattle.aq_world.specs.Turning.{end_by, next_meaning}
-use Rattle.aq_world.specs.declared.respond.Doing.TheVariants.{Call, Wait}
+use Rattle.next_steps.specs.declared.respond.Doing.TheVariants.{Call, Wait}
 use Rattle.aq_world.specs.declared.turn_end.TurnEnd.TheVariants as ends
 
 -- what holds of the session that there is
 pub of_each : {P R : Session → Type 0} (o : Option Session) → IfSome o P → ((s : Session) → P s → R s) → IfSome o R
 of_each None p f = _
 of_each (Some s) p f = f s p
-
-pub some_of : (P : Session → Type 0) (o : Option Session) (s : Session) → o ≡ Some s → P s → IfSome o P
-some_of P o s there p = subst (λ x. IfSome x P) (sym there) p
 
 pub of_both : {P Q R : Session → Type 0} (o : Option Session) → IfSome o P → IfSome o Q → ((s : Session) → P s → Q s → R s) → IfSome o R
 of_both None p q f = _

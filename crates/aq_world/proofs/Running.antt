@@ -10,7 +10,7 @@ use Rattle.queue_rows.specs.Meaning.{Meaning, answers, parks}
 use Rattle.queue_rows.specs.Session.{Session}
 use Rattle.queue_rows.specs.declared.history.SessionScript.{SessionScript}
 use Rattle.queue_rows.specs.declared.tables.Tables.{Tables}
-use Rattle.world_laws.specs.WorldLaws.{MayBegin}
+use Rattle.history_laws.specs.WorldLaws.{MayBegin}
 use Rattle.queue_rows.specs.World.{World, opened, read_clock}
 use Rattle.queue_rows.specs.Sending.{next_sending}
 use Rattle.queue_rows.specs.Legal.{IsLegal, opens, reads, steps, is_actor, is_sender}
@@ -28,7 +28,7 @@ use Rattle.durable_state.specs.declared.broken.Broken.{Broken}
 use Rattle.durable_state.specs.declared.broken.Broken.TheVariants as reasons
 use Rattle.aq_world.specs.Clocked.{IsClocked, Reads, TakesReading}
 use Rattle.aq_world.specs.Going.{GoesAs, Stops}
-use Rattle.aq_world.specs.Sound.{IsSound, IsRunning, start_of}
+use Rattle.next_steps.specs.Sound.{IsSound, IsRunning, start_of}
 use Rattle.aq_world.specs.Turning.{IsActor, IsUndone, IsBrokenOff, IsPartOfStep, IsPartDrained, IsDrainable, IsOfRun, IsWhole, broken_end, broken_if, reads_clock, is_owed, is_session, turned, next_meaning, end_by, session_end, background_end, timer_end, propagator_end, turn_end}
 use Rattle.aq_world.specs.declared.turn_end.TurnEnd.{TurnEnd}
 use Rattle.aq_world.specs.declared.turn_end.TurnEnd.TheVariants as ends

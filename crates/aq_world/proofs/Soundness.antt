@@ -24,8 +24,8 @@ use Rattle.queue_rows.specs.declared.tables.Tables.{Tables}
 use Rattle.queue_rows.proofs.Sessions.{get_set-cases}
 use Rattle.durable_state.specs.Sound.{IsSound as IsSoundTables}
 use Rattle.sessions.specs.Numbers.{IsPendable}
-use Rattle.world_laws.specs.ValidWorld.{AreScripts}
-use Rattle.world_laws.specs.WorldLaws.{MayBegin}
+use Rattle.history_laws.specs.ValidWorld.{AreScripts}
+use Rattle.history_laws.specs.WorldLaws.{MayBegin}
 use Rattle.queue_rows.specs.Sending.{sent, offers}
 use Rattle.queue_rows.specs.Turns.{having_called, due_at}
 use Rattle.queue_rows.specs.Legal.{MayStep}
@@ -33,8 +33,8 @@ use Rattle.run_laws.proofs.Grouping.{opens_grouped, reading_keeps_groups, step_k
 use Rattle.run_laws.proofs.Positions.{was_at, length-standing}
 use Rattle.run_laws.proofs.Stepping.{call_sessions, step_sessions, world_at}
 use Rattle.run_laws.proofs.Worlds.{opens_valid, reading_keeps_valid, step_keeps_valid, arrival_sessions, confirm_sessions}
-use Rattle.aq_world.specs.Sound.{IsSound, IsSoundSession}
-use Rattle.aq_world.proofs.Pends.{answered_so, few_after, pendable_after}
+use Rattle.next_steps.specs.Sound.{IsSound, IsSoundSession}
+use Rattle.next_steps.proofs.Pends.{answered_so, few_after, pendable_after}
 
 -- ---- the beginning
 

@@ -23,7 +23,7 @@ use Rattle.run_state.specs.Entries.{IsUntold}
 use Rattle.session_registry.specs.Sessions.{OfSession, session_of, untold_as, unmarked}
 use Rattle.durable_state.specs.declared.broken.Broken.{Broken}
 use Rattle.durable_state.specs.declared.broken.Broken.TheVariants as reasons
-use Rattle.aq_world.specs.Sound.{IsSound}
+use Rattle.next_steps.specs.Sound.{IsSound}
 use Rattle.aq_world.specs.Turning.{IsOwed, IsCalling, IsUndone, IsBrokenOff, IsPartOfStep, IsPartDrained, IsDrainable, IsUnclosed, broken_if, reads_clock, is_owed, is_session, next_meaning, end_by, session_end, background_end}
 use Rattle.aq_world.specs.declared.turn_end.TurnEnd.{TurnEnd}
 use Rattle.aq_world.specs.declared.turn_end.TurnEnd.TheVariants.{Done, Idle, Ended}

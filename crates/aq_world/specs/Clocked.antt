@@ -7,7 +7,7 @@ use Rattle.queue_rows.specs.Turns.{closing_turn, DrainsIn}
 use Rattle.queue_rows.specs.World.{World, read_clock}
 use Rattle.durable_state.specs.Going.{AddsEntries}
 use Rattle.durable_state.specs.Held.{Held}
-use Rattle.aq_world.specs.Sound.{IsRunning}
+use Rattle.next_steps.specs.Sound.{IsRunning}
 use Rattle.aq_world.specs.Turning.{IsBrokenOff, IsOfRun, IsUnclosed, IsWhole, reads_clock, turned, turn_end}
 use Rattle.aq_world.specs.declared.turn_end.TurnEnd.{TurnEnd}
 use Rattle.aq_world.specs.declared.turn_end.TurnEnd.TheVariants.{Done, Halted, Memory}

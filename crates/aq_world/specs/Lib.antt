@@ -1,8 +1,13 @@
-pub mod Calling
 pub mod Clocked
 pub mod Going
 pub mod Mounting
-pub mod Sendings
-pub mod Sound
-pub mod Stepping
 pub mod Turning
+pub use Rattle.durable_state.specs.Crash
+pub use Rattle.durable_state.specs.Entries
+pub use Rattle.durable_state.specs.Going as RunGoing
+pub use Rattle.durable_state.specs.Held
+pub use Rattle.durable_state.specs.Logged
+pub use Rattle.durable_state.specs.Sound as RecoveredSound
+pub use Rattle.durable_state.specs.Survival
+pub use Rattle.durable_state.specs.declared.broken.Broken
+pub use Rattle.next_steps.specs.Sound

@@ -1,7 +1,6 @@
 // Due work: a turn takes the clock first, and then does what is due at both databases.
 ghost use Rattle.std.specs.Prelude.{◌≡◌, ◌<◌, ◌+◌, ◌^◌, IfOk, OnOk, OnErr};
-ghost use Rattle.queue_rows.specs.Statements.{slot_sent};
-ghost use Rattle.queue_rows.specs.Turns.{begun, caught_up, due_at, is_due};
+ghost use Rattle.queue_rows.specs.Turns.{begun, caught_up, is_due};
 ghost use Rattle.run_laws.specs.ValidRun.{IsValidWorld};
 ghost use Rattle.queue_rows.specs.World.{read_clock};
 ghost use Rattle.aq_world.specs.Going.{GoesQuietly};
@@ -9,37 +8,8 @@ ghost use Rattle.aq_world.specs.Going.{GoesQuietly};
 use aq_base::DbId;
 use aq_disk::Disk;
 use durable_state::DurableState;
-use payload_records::List;
-use queue_rows::{Change, SlotRef};
-use run_state::RunState;
+use next_steps::due_at;
 use std::alloc::AllocError;
-use time_manager::due;
-
-/// The slot that is being sent, if one is.
-#[tactic(auto, using(crate::proofs::Sizes::sent_slot))]
-pub fn slot_sent(state: &RunState) -> Option<SlotRef>
-    ensures { result ≡ slot_sent state.now }
-{
-    match state.transit() {
-        Some(transit) => Some(transit.slot),
-        None => None,
-    }
-}
-
-/// What is due at a database.
-#[tactic(auto, using(crate::proofs::Sizes::apart_at, crate::proofs::Sizes::due_is, crate::proofs::Sizes::few_slots_at))]
-pub fn due_at(state: &RunState, db: DbId) -> Result<List<Change>, AllocError>
-    requires { IsValidWorld state.now }
-    ensures { IfOk result (λ changes. changes ≡ due_at db state.now) }
-{
-    due(
-        state.database(db).store(),
-        db,
-        state.locks(db),
-        slot_sent(state).as_ref(),
-        state.moment(),
-    )
-}
 
 /// Does the work that is due, and tells whether there was any. At want of memory all is as before.
 #[tactic(auto, unfolding(queue_rows::specs::Turns::caught_up, queue_rows::specs::Turns::is_due))]

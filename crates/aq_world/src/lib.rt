@@ -4,12 +4,12 @@
 mod due_work;
 mod mount;
 mod own_turn;
-mod respond;
 mod sending;
 mod turn_end;
 mod turns;
 mod world;
 
+pub use durable_state::Broken;
 pub use mount::{MountCause, MountFault};
 pub use turn_end::TurnEnd;
 pub use world::{Finished, World};

@@ -1,11 +1,11 @@
 // The journals of both databases are mounted.
 ghost use Rattle.std.specs.Prelude.{◌≡◌, [], IfOk, IfErr};
-ghost use Rattle.world_laws.specs.ValidWorld.{AreScripts};
+ghost use Rattle.history_laws.specs.ValidWorld.{AreScripts};
 ghost use Rattle.queue_rows.specs.World.{opened};
 ghost use Rattle.durable_state.specs.Held.{HasFailed};
 ghost use Rattle.durable_state.specs.Survival.{Survives};
 ghost use Rattle.aq_world.specs.Mounting.{HasMountCause, HasSoundOpenings, IsLogCause, IsOpened, KeepsRecovered, RecoversTo};
-ghost use Rattle.aq_world.specs.Sound.{IsRunning};
+ghost use Rattle.next_steps.specs.Sound.{IsRunning};
 
 use aq_base::DbId;
 use aq_disk::Disk;

@@ -1,44 +1,17 @@
 // A session's own step: it calls its next statement, waits with it, or ends.
-ghost use Rattle.std.specs.Prelude.{◌≡◌, ◌⊎◌, IfOk, OnOk, OnErr};
+ghost use Rattle.std.specs.Prelude.{◌≡◌, IfOk, OnOk, OnErr};
 ghost use Rattle.queue_rows.specs.Statements.{next_statement};
 ghost use Rattle.queue_rows.specs.Turns.{own_turn};
 ghost use Rattle.session_registry.specs.Sessions.{OfSession};
 ghost use Rattle.aq_world.specs.Going.{GoesQuietly};
-ghost use Rattle.aq_world.specs.Sound.{IsSound};
-ghost use Rattle.aq_world.specs.Stepping.{IsNext};
+ghost use Rattle.next_steps.specs.Sound.{IsSound};
 ghost use Rattle.aq_world.specs.Turning.{end_by, next_meaning};
 
-use crate::due_work::slot_sent;
-use crate::respond::{Caller, Doing, respond};
 use crate::turn_end::TurnEnd;
 use aq_disk::Disk;
 use durable_state::DurableState;
-use run_state::RunState;
+use next_steps::{Doing, next_doing};
 use std::alloc::AllocError;
-
-/// What the session of that number does next, or None where it has called all.
-fn next_doing(state: &RunState, at: u32) -> Result<Option<Doing>, AllocError>
-    requires { IsSound state.now }
-    ensures { IfOk result (λ next. OfSession at state.now (λ s. IsNext state.now at s next)) }
-{
-    let Some(session) = state.session(at) else {
-        return Ok(None);
-    };
-    let Some(statement) = state.statement(at, session.next) else {
-        return Ok(None);
-    };
-    let caller = Caller {
-        alloc: state.allocator(),
-        actor: at,
-        session,
-        sessions: state.states(),
-        database: state.database(session.at),
-        locks: state.locks(session.at),
-        sent: slot_sent(state),
-        moment: state.moment(),
-    };
-    Ok(Some(respond(caller, statement)?))
-}
 
 /// The session of that number does what comes next, and the turn ends so. At want of memory all is as before.
 pub fn own_turn<D: Disk>(state: &mut DurableState<D>, at: u32) -> Result<TurnEnd, AllocError>

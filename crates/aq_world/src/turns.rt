@@ -7,7 +7,7 @@ ghost use Rattle.queue_rows.specs.World.{read_clock};
 ghost use Rattle.durable_state.specs.Going.{Goes};
 ghost use Rattle.durable_state.specs.Held.{HasFailed};
 ghost use Rattle.aq_world.specs.Going.{GoesAs, Stops};
-ghost use Rattle.aq_world.specs.Sound.{IsSound};
+ghost use Rattle.next_steps.specs.Sound.{IsSound};
 ghost use Rattle.aq_world.specs.Turning.{IsActor, IsBrokenOff, IsCalling, IsDrainable, IsOwed, IsPartDrained, IsPartOfStep, IsUnclosed, IsUndone};
 ghost use Rattle.aq_world.specs.Turning.{background_end, is_owed, reads_clock, session_end, turn_end, turned};
 ghost use Rattle.aq_world.specs.declared.turn_end.TurnEnd.TheVariants.{Done};

@@ -3,7 +3,7 @@ ghost use Rattle.std.specs.Prelude.{◌≡◌, ◌<◌, ◌≤◌, ◌^◌, ◌�
 ghost use Rattle.std.specs.Option.{ForSome};
 ghost use Rattle.aq_clock.specs.Clock.{HasReading, TellsOn, step_reading};
 ghost use Rattle.queue_rows.specs.World.{uncounted, database_at, opened};
-ghost use Rattle.world_laws.specs.ValidWorld.{AreScripts};
+ghost use Rattle.history_laws.specs.ValidWorld.{AreScripts};
 ghost use Rattle.queue_rows.specs.Turns.{any_live};
 ghost use Rattle.run_state.specs.Entries.{BeginsAs};
 ghost use Rattle.durable_state.specs.Brief.{AreBrief};

@@ -9,3 +9,4 @@ pub mod Putting
 pub mod Searching
 pub mod Shown
 pub mod Standing
+pub use Rattle.row_laws.proofs.Slots

@@ -8,7 +8,7 @@ use Rattle.queue_rows.specs.Tables.{after}
 use Rattle.queue_rows.specs.declared.tables.Tables.{Tables}
 use Rattle.queue_rows.specs.declared.change.Commit.{Commit}
 use Rattle.redo_records.specs.Spellable.{CanBeSpelled}
-use Rattle.fate_laws.specs.Made.{after_commits}
+use Rattle.history_laws.specs.Made.{after_commits}
 use Rattle.crash_laws.specs.LegalFates.{all_fit}
 use Rattle.commit_log.specs.Logged.{AreLoggable}
 use Rattle.commit_log.specs.LogLaws.{LoggableSoFar}

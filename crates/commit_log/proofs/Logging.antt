@@ -19,7 +19,7 @@ use Rattle.redo_records.specs.Spelling.{encode}
 use Rattle.queue_rows.specs.Tables.{empty_tables}
 use Rattle.queue_rows.specs.declared.tables.Tables.{Tables}
 use Rattle.queue_rows.specs.declared.change.Commit.{Commit}
-use Rattle.fate_laws.specs.Made.{after_commits}
+use Rattle.history_laws.specs.Made.{after_commits}
 use Rattle.crash_laws.specs.Crash.{Recovers, RecoversEither}
 use Rattle.database_recovery.specs.Recovering.{AppendRecovers, BodiesJoin, CommitLeadsOn, ContentsRecover}
 use Rattle.commit_log.specs.Logged.{AreLoggable, Logs}

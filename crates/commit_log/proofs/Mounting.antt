@@ -14,7 +14,7 @@ use Rattle.redo_journal.proofs.Moments.{each_both, each_more, settled_told, some
 use Rattle.redo_records.specs.Recovered.{after_bodies, after_frames, recovered}
 use Rattle.queue_rows.specs.Tables.{empty_tables}
 use Rattle.queue_rows.specs.declared.tables.Tables.{Tables}
-use Rattle.fate_laws.specs.Made.{after_commits}
+use Rattle.history_laws.specs.Made.{after_commits}
 use Rattle.crash_laws.specs.Crash.{Recovers}
 use Rattle.database_recovery.specs.Recovering.{ContentsRecover, FramesLead, JournalRecovers, MountRecovers}
 use Rattle.commit_log.specs.Logged.{Logs, RecoversSame}

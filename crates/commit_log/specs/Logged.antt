@@ -8,7 +8,7 @@ use Rattle.redo_records.specs.Spellable.{CanBeSpelled}
 use Rattle.queue_rows.specs.Tables.{empty_tables}
 use Rattle.queue_rows.specs.declared.tables.Tables.{Tables}
 use Rattle.queue_rows.specs.declared.change.Commit.{Commit}
-use Rattle.fate_laws.specs.Made.{after_commits}
+use Rattle.history_laws.specs.Made.{after_commits}
 use Rattle.crash_laws.specs.LegalFates.{all_fit}
 
 -- each commit fits the tables that those before it leave, and can be spelled

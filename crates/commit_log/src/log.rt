@@ -5,7 +5,7 @@ ghost use Rattle.aq_disk.specs.Disk.{EachImage, KeepsEarlier};
 ghost use Rattle.queue_rows.specs.declared.change.Commit.{Commit};
 ghost use Rattle.queue_rows.specs.declared.tables.Tables.{Tables};
 ghost use Rattle.redo_records.specs.Spelling.{encode};
-ghost use Rattle.fate_laws.specs.Made.{after_commits};
+ghost use Rattle.history_laws.specs.Made.{after_commits};
 ghost use Rattle.crash_laws.specs.Crash.{Recovers, RecoversEither};
 ghost use Rattle.commit_log.specs.Logged.{AreLoggable, Logs};
 

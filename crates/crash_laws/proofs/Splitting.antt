@@ -6,8 +6,8 @@ use Rattle.std.proofs.lemmas.List.Elements.{filter_map-append}
 use Rattle.std.proofs.lemmas.List.Folds.{list_any-append}
 use Rattle.aq_base.specs.declared.DbId.{DbId}
 use Rattle.queue_rows.specs.declared.history.Entry.{Entry}
-use Rattle.fate_laws.specs.Made.{commit_at, commits_of}
-use Rattle.history_fates.specs.Durability.{is_flush, is_flush_entry, until_flush, made, durable}
+use Rattle.history_laws.specs.Made.{commit_at, commits_of}
+use Rattle.history_laws.specs.Durability.{is_flush, is_flush_entry, until_flush, made, durable}
 use Rattle.crash_laws.specs.Crash.{calls_in, calls_after}
 
 -- ---- one item more

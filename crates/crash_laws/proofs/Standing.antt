@@ -1,7 +1,7 @@
 -- The laws, of any type of disks.
 use Rattle.std.proofs.Common.{ℕ, List, sym, subst, arith}
 use Rattle.queue_rows.specs.declared.tables.Tables.{Tables}
-use Rattle.history_fates.specs.Durability.{made}
+use Rattle.history_laws.specs.Durability.{made}
 use Rattle.crash_laws.specs.Crash.{Recovers, with_entry}
 use Rattle.crash_laws.specs.CrashLaws.{OpeningSurvives, CallsPass, FlushLeaves, EntryComes, FlushComes}
 use Rattle.crash_laws.proofs.Splitting.{durable_same, durable_all}

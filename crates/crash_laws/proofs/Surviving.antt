@@ -7,8 +7,8 @@ use Rattle.aq_disk.specs.Disk.{EachImage, KeepsEarlier}
 use Rattle.queue_rows.specs.declared.tables.Tables.{Tables}
 use Rattle.queue_rows.specs.declared.change.Commit.{Commit}
 use Rattle.queue_rows.specs.declared.history.Entry.{Entry}
-use Rattle.fate_laws.specs.Made.{commits_of, after_commits}
-use Rattle.history_fates.specs.Durability.{made, durable}
+use Rattle.history_laws.specs.Made.{commits_of, after_commits}
+use Rattle.history_laws.specs.Durability.{made, durable}
 use Rattle.crash_laws.specs.Crash.{Run, Recovers, RecoversEither, RecoversFirst, SurvivesCrash, calls_in, calls_after, opened_run, with_entry, tables_at}
 use Rattle.crash_laws.proofs.Splitting.{split_last, calls_last, commits-append, made_more}
 

@@ -6,8 +6,8 @@ use Rattle.aq_disk.specs.Disk.{EachImage}
 use Rattle.queue_rows.specs.declared.tables.Tables.{Tables}
 use Rattle.queue_rows.specs.declared.change.Commit.{Commit}
 use Rattle.queue_rows.specs.declared.history.Entry.{Entry}
-use Rattle.fate_laws.specs.Made.{commits_of, after_commits}
-use Rattle.history_fates.specs.Durability.{made, durable}
+use Rattle.history_laws.specs.Made.{commits_of, after_commits}
+use Rattle.history_laws.specs.Durability.{made, durable}
 use Rattle.redo_records.specs.Recovered.{recovered}
 
 -- a run at one database: its opening, the disk's call number as mounting began, and the entries

@@ -4,8 +4,8 @@ use Rattle.aq_base.specs.declared.DbId.{DbId}
 use Rattle.aq_disk.specs.Disk.{EachImage, KeepsEarlier}
 use Rattle.queue_rows.specs.declared.tables.Tables.{Tables}
 use Rattle.queue_rows.specs.declared.history.Entry.{Entry}
-use Rattle.fate_laws.specs.Made.{commits_of, after_commits}
-use Rattle.history_fates.specs.Durability.{is_flush, made, durable}
+use Rattle.history_laws.specs.Made.{commits_of, after_commits}
+use Rattle.history_laws.specs.Durability.{is_flush, made, durable}
 use Rattle.crash_laws.specs.Crash.{Run, Recovers, RecoversEither, RecoversRun, SurvivesCrash, calls_in, opened_run, with_entry, tables_at}
 
 -- a run without entries survives where each image since mounting began recovers its opening

@@ -1,3 +1,3 @@
 pub mod Crash
 pub mod CrashLaws
-pub use Rattle.history_fates.specs.LegalFates
+pub use Rattle.history_laws.specs.LegalFates

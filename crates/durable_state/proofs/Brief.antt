@@ -1,7 +1,7 @@
 -- Entries of which each flush made few calls, and one more.
 use Rattle.std.proofs.Common.{◌≡◌, ◌≤◌, ◌+◌, ◌++◌, ℕ, false, List, [], ◌∷◌, sym, ◌∙◌, arith}
 use Rattle.std.proofs.lemmas.Bool.{false≢true}
-use Rattle.history_fates.specs.Durability.{is_flush}
+use Rattle.history_laws.specs.Durability.{is_flush}
 use Rattle.queue_rows.specs.declared.history.Entry.{Entry}
 use Rattle.durable_state.specs.Brief.{AreBrief, AreBriefBehind, EndsAt, EndsBehind, IsBriefBehind}
 

@@ -4,8 +4,8 @@ use Rattle.std.specs.Prelude.{◌==◌}
 use Rattle.std.specs.List.{cons_option}
 use Rattle.std.proofs.lemmas.List.{append-nil}
 use Rattle.aq_base.specs.declared.DbId.{DbId}
-use Rattle.fate_laws.specs.Made.{changes_at, commits_of}
-use Rattle.history_fates.specs.Durability.{is_flush}
+use Rattle.history_laws.specs.Made.{changes_at, commits_of}
+use Rattle.history_laws.specs.Durability.{is_flush}
 use Rattle.queue_rows.specs.declared.tables.Tables.{Tables}
 use Rattle.queue_rows.specs.declared.change.Change.{Change}
 use Rattle.queue_rows.specs.declared.change.Commit.{Commit}

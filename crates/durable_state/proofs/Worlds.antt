@@ -5,7 +5,7 @@ use Rattle.std.proofs.Math.ListN.{length-set}
 use Rattle.std.proofs.lemmas.Bool.{le-ltb}
 use Rattle.aq_base.specs.declared.DbId.{DbId}
 use Rattle.aq_base.specs.declared.DbId.TheVariants.{Home, Away}
-use Rattle.history_fates.specs.Durability.{is_flush}
+use Rattle.history_laws.specs.Durability.{is_flush}
 use Rattle.queue_rows.specs.Propagating.{Arriving}
 use Rattle.queue_rows.specs.Session.{Session, standing_after}
 use Rattle.queue_rows.specs.World.{at_home, at_away, other_db, World, Transit, entry_of, read_clock, stepped, with_session}

@@ -4,7 +4,7 @@ use Rattle.std.specs.Prelude.{Ok, Err, OnOk, OnErr}
 use Rattle.std.proofs.lemmas.List.{append-nil}
 use Rattle.aq_disk.specs.Causes.{HasCause, Rose}
 use Rattle.aq_disk.specs.Disk.{EachImage, KeepsEarlier}
-use Rattle.fate_laws.specs.Made.{after_commits, commits_of}
+use Rattle.history_laws.specs.Made.{after_commits, commits_of}
 use Rattle.queue_rows.specs.declared.tables.Tables.{Tables}
 use Rattle.queue_rows.specs.declared.change.Commit.{Commit}
 use Rattle.queue_rows.specs.declared.history.Entry.{Entry}

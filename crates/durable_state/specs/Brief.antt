@@ -1,6 +1,6 @@
 -- How many calls on the disks a flush makes.
 use Rattle.std.specs.Prelude.{◌≡◌, ◌≤◌, ◌+◌, ◌⊎◌, ℕ, List, [], ◌∷◌, true, ⊤}
-use Rattle.history_fates.specs.Durability.{is_flush}
+use Rattle.history_laws.specs.Durability.{is_flush}
 use Rattle.queue_rows.specs.declared.history.Entry.{Entry}
 use Rattle.durable_state.specs.Held.{Held, HasFailed}
 

@@ -1,8 +1,8 @@
 -- What an entry that is no flush makes of the logs.
 use Rattle.std.specs.Prelude.{◌≡◌, ◌++◌, ◌-◌, ◌==◌, ℕ, List, [], ◌∷◌, Bool, false, not, if◌then◌else◌, length, take, Option}
 use Rattle.aq_base.specs.declared.DbId.{DbId}
-use Rattle.fate_laws.specs.Made.{changes_at}
-use Rattle.history_fates.specs.Durability.{is_flush}
+use Rattle.history_laws.specs.Made.{changes_at}
+use Rattle.history_laws.specs.Durability.{is_flush}
 use Rattle.queue_rows.specs.declared.change.Change.{Change}
 use Rattle.queue_rows.specs.declared.history.Entry.{Entry}
 use Rattle.redo_journal.specs.Journaled.{Journaled}

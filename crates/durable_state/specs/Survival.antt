@@ -4,8 +4,8 @@ use Rattle.std.specs.Option.{ForSome}
 use Rattle.aq_base.specs.declared.DbId.{DbId}
 use Rattle.aq_base.specs.declared.DbId.TheVariants.{Home, Away}
 use Rattle.aq_disk.specs.Causes.{Rose}
-use Rattle.fate_laws.specs.Made.{commits_of}
-use Rattle.history_fates.specs.Durability.{durable}
+use Rattle.history_laws.specs.Made.{commits_of}
+use Rattle.history_laws.specs.Durability.{durable}
 use Rattle.redo_journal.specs.Journaled.{Journaled}
 use Rattle.redo_journal.specs.Runs.{IsDiskSettled}
 use Rattle.crash_laws.specs.Crash.{Run, SurvivesCrash}

@@ -1,8 +1,8 @@
 -- What a flush makes of the logs.
 use Rattle.std.specs.Prelude.{◌≡◌, ℕ, List, [], true, Option, None}
 use Rattle.aq_base.specs.declared.DbId.{DbId}
-use Rattle.fate_laws.specs.Made.{changes_at}
-use Rattle.history_fates.specs.Durability.{is_flush}
+use Rattle.history_laws.specs.Made.{changes_at}
+use Rattle.history_laws.specs.Durability.{is_flush}
 use Rattle.queue_rows.specs.declared.history.Entry.{Entry}
 use Rattle.redo_journal.specs.Journaled.{Journaled}
 use Rattle.crash_laws.specs.Crash.{Run, calls_in, with_entry}

@@ -8,3 +8,5 @@ pub mod StampOrder
 pub mod Stamped
 pub mod Stamps
 pub use Rattle.open_rows.specs.Rows
+pub use Rattle.remote_slots.specs.Few
+pub use Rattle.remote_slots.specs.Searched

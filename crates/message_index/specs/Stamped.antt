@@ -7,7 +7,7 @@ use Rattle.std.specs.List.{AllByRecursion}
 use Rattle.queue_rows.specs.declared.rows.MsgRow.{MsgRow}
 use Rattle.choice_laws.specs.Entries.{Entry, AreRising, with_message}
 use Rattle.choice_laws.specs.ShownLaws.{KeepsRecipient}
-use Rattle.ready_slots.specs.Indexed.{IndexesReady}
+use Rattle.remote_slots.specs.Indexed.{IndexesReady}
 use Rattle.remote_slots.specs.ReadyEdits.{entry}
 use Rattle.remote_slots.specs.Remote.{IndexesRemote}
 use Rattle.sort_index.specs.declared.group.Group.{Group}

@@ -22,3 +22,4 @@ pub use moved_rooms::slot_rooms;
 pub use open_messages::OpenMessages;
 pub use ready_cache::ReadyCache;
 pub use remote_cache::RemoteCache;
+pub use remote_slots::{SendsMessages, least_by_rows, least_by_walk};

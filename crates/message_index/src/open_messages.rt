@@ -8,7 +8,7 @@ ghost use Rattle.open_rows.specs.Rows.{filtered, without_first};
 ghost use Rattle.message_index.specs.Caches.{AreOf};
 ghost use Rattle.message_index.specs.DueKept.{Gains, IfDue, Loses, keeps_in};
 ghost use Rattle.message_index.specs.Stamped.{AreStamps, Forgets, Notes, Turns};
-ghost use Rattle.ready_slots.specs.Indexed.{IndexesReady};
+ghost use Rattle.remote_slots.specs.Indexed.{IndexesReady};
 ghost use Rattle.remote_slots.specs.Remote.{IndexesRemote};
 ghost use Rattle.row_tree.specs.Edits.{edit_at};
 

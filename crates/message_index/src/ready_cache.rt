@@ -1,6 +1,6 @@
 // The index of ready slots beside the messages, which is let go where it finds no memory.
 ghost use Rattle.std.specs.Prelude.{◌≡◌, [], length};
-ghost use Rattle.ready_slots.specs.Indexed.{IndexesReady};
+ghost use Rattle.remote_slots.specs.Indexed.{IndexesReady};
 ghost use Rattle.message_index.specs.Messages.{ids_of};
 ghost use Rattle.message_index.specs.Stamped.{AreStamps, Forgets, IfReady, Notes, Turns, entries_of};
 

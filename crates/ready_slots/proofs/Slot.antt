@@ -10,7 +10,7 @@ use Rattle.queue_rows.specs.Session.{is_same_consumer}
 use Rattle.queue_rows.specs.Dequeueing.{is_local_for}
 use Rattle.queue_rows.specs.declared.rows.MsgRow.{MsgRow}
 use Rattle.queue_rows.specs.declared.rows.SlotRow.{SlotRow}
-use Rattle.row_laws.proofs.Slots.{slot_of-with_same}
+use Rattle.choice_laws.proofs.Slots.{slot_of-with_same}
 use Rattle.sort_index.specs.Ready.{is_of, key, names_cmp}
 use Rattle.sort_index.specs.ReadyLaws.{names_exact}
 use Rattle.sort_index.specs.declared.group.Group.{Group}

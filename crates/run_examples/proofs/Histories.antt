@@ -12,10 +12,10 @@ use Rattle.queue_rows.specs.Valid.{is_valid}
 use Rattle.queue_rows.specs.Within.{are_within, is_within}
 use Rattle.queue_rows.specs.Session.{standing_after}
 use Rattle.queue_rows.specs.declared.history.History.{History}
-use Rattle.fate_laws.specs.Fates.{fate}
-use Rattle.fate_laws.specs.Made.{after_commits}
-use Rattle.world_laws.specs.WorldLaws.{MayBegin}
-use Rattle.history_fates.specs.Examples.{example_taken, example_given_up, example_put}
+use Rattle.history_laws.specs.Fates.{fate}
+use Rattle.history_laws.specs.Made.{after_commits}
+use Rattle.history_laws.specs.WorldLaws.{MayBegin}
+use Rattle.history_laws.specs.Examples.{example_taken, example_given_up, example_put}
 use Rattle.queue_rows.specs.World.{opened, read_clock, stepped}
 use Rattle.queue_rows.specs.Statements.{meaning}
 use Rattle.queue_rows.specs.Sending.{next_sending, sent}

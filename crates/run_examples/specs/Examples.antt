@@ -21,11 +21,11 @@ use Rattle.queue_rows.specs.declared.statement.Statement.{Statement}
 use Rattle.queue_rows.specs.declared.statement.Statement.TheVariants as statements
 use Rattle.queue_rows.specs.declared.statement.Visibility.TheVariants as visibilities
 use Rattle.valid_laws.specs.Examples.{example_message, example_slot, example_tables, example_left}
-use Rattle.fate_laws.specs.Made.{commits_of, tables_after, opening_of}
-use Rattle.fate_laws.specs.Fates.{Fate, ready, processed, expired, fate}
-use Rattle.history_fates.specs.Arrivals.{is_copied}
-use Rattle.history_fates.specs.Durability.{made, durable}
-use Rattle.history_fates.specs.Examples.{script_of, entry_at, example_taken, example_given_up, example_put, sending_tables, receiving_tables, sent_ref, copied_message}
+use Rattle.history_laws.specs.Made.{commits_of, tables_after, opening_of}
+use Rattle.history_laws.specs.Fates.{Fate, ready, processed, expired, fate}
+use Rattle.history_laws.specs.Arrivals.{is_copied}
+use Rattle.history_laws.specs.Durability.{made, durable}
+use Rattle.history_laws.specs.Examples.{script_of, entry_at, example_taken, example_given_up, example_put, sending_tables, receiving_tables, sent_ref, copied_message}
 use Rattle.run_fates.specs.DurableRun.{durable_tables_at}
 use Rattle.queue_rows.specs.Legal.{IsLegalHistory}
 

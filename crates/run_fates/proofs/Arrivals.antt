@@ -21,20 +21,20 @@ use Rattle.queue_rows.specs.declared.history.Arrival.TheVariants.{Copied, Seen, 
 use Rattle.queue_rows.specs.declared.history.Step.{Step}
 use Rattle.queue_rows.specs.declared.history.Step.TheVariants.{Call, Park, Timer, Offer, Arrive, Confirm, Told, Flush, End}
 use Rattle.statement_laws.proofs.Administering.{same_is}
-use Rattle.fate_laws.specs.Made.{changes_at, commits_of, after_commits, opening_of}
-use Rattle.world_laws.specs.WorldLaws.{MayBegin}
-use Rattle.history_fates.specs.LegalFates.{opening_at}
-use Rattle.history_fates.specs.Arrivals.{IsSeenOnce, is_same_slot, copy_by, tables_at, ArrivesSo, AreArrivals, HasArrivals}
-use Rattle.history_fates.proofs.Arriving.{left_at, AreIn, none_in, more_in, fitting_has_arrivals}
-use Rattle.history_fates.proofs.Lasting.{opening_is, commits_uncounted}
-use Rattle.history_fates.proofs.Seeing.{fitting_sees_once}
+use Rattle.history_laws.specs.Made.{changes_at, commits_of, after_commits, opening_of}
+use Rattle.history_laws.specs.WorldLaws.{MayBegin}
+use Rattle.history_laws.specs.LegalFates.{opening_at}
+use Rattle.history_laws.specs.Arrivals.{IsSeenOnce, is_same_slot, copy_by, tables_at, ArrivesSo, AreArrivals, HasArrivals}
+use Rattle.history_laws.proofs.Arriving.{left_at, AreIn, none_in, more_in, fitting_has_arrivals}
+use Rattle.history_laws.proofs.Lasting.{opening_is, commits_uncounted}
+use Rattle.history_laws.proofs.Seeing.{fitting_sees_once}
 use Rattle.queue_rows.specs.Sending.{arrives, sent, next_sending, ids_copied}
 use Rattle.run_laws.specs.ValidRun.{IsValidWorld}
 use Rattle.run_laws.proofs.Sendings.{arrives_so}
 use Rattle.run_laws.proofs.Stepping.{Leads, ids_at}
 use Rattle.run_laws.proofs.Worlds.{arrival_changes, other_of, arrival_leads, opens_valid}
 use Rattle.run_turns.proofs.Adding.{Adds, step_adds, arrive_adds, last-snoc}
-use Rattle.history_fates.proofs.Making.{opened_made}
+use Rattle.history_laws.proofs.Making.{opened_made}
 use Rattle.run_fates.proofs.Making.{AreMade, made_from}
 use Rattle.run_fates.proofs.Lasting.{legal_commits_fit}
 

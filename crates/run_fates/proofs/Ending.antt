@@ -10,9 +10,9 @@ use Rattle.queue_rows.specs.declared.tables.Tables.{Tables}
 use Rattle.queue_rows.specs.declared.history.Entry.{Entry}
 use Rattle.queue_rows.specs.declared.history.History.{History}
 use Rattle.queue_rows.specs.declared.history.SessionScript.{SessionScript}
-use Rattle.world_laws.specs.WorldLaws.{MayBegin}
-use Rattle.history_fates.specs.Durability.{is_flush_entry, until_flush, made, durable}
-use Rattle.history_fates.proofs.Telling.{until_uncounted, made_first, made_uncounted}
+use Rattle.history_laws.specs.WorldLaws.{MayBegin}
+use Rattle.history_laws.specs.Durability.{is_flush_entry, until_flush, made, durable}
+use Rattle.history_laws.proofs.Telling.{until_uncounted, made_first, made_uncounted}
 use Rattle.queue_rows.specs.declared.history.Step.TheVariants.{Flush}
 use Rattle.queue_rows.specs.World.{World, database_at, opened, stepped}
 use Rattle.queue_rows.specs.Sending.{is_durable_at}

@@ -20,15 +20,15 @@ use Rattle.queue_rows.specs.declared.history.Arrival.{Arrival}
 use Rattle.queue_rows.specs.declared.history.Arrival.TheVariants.{Copied, Seen, Failed}
 use Rattle.queue_rows.specs.declared.history.Step.{Step}
 use Rattle.queue_rows.specs.declared.history.Step.TheVariants.{Call, Park, Timer, Offer, Arrive, Confirm, Told, Flush, End}
-use Rattle.fate_laws.specs.Made.{commits_of, after_commits}
-use Rattle.world_laws.specs.WorldLaws.{MayBegin}
-use Rattle.history_fates.specs.LegalFates.{opening_at}
-use Rattle.history_fates.specs.Arrivals.{is_same_slot, copy_by, is_copied}
-use Rattle.history_fates.specs.Durability.{is_flush, until_flush}
-use Rattle.history_fates.proofs.Arriving.{left_at}
-use Rattle.history_fates.proofs.Commits.{last_or_before, no_items, empty_if}
-use Rattle.history_fates.proofs.Lasting.{opening_is, commits_uncounted}
-use Rattle.history_fates.proofs.Telling.{until-flush, until-other, until_uncounted}
+use Rattle.history_laws.specs.Made.{commits_of, after_commits}
+use Rattle.history_laws.specs.WorldLaws.{MayBegin}
+use Rattle.history_laws.specs.LegalFates.{opening_at}
+use Rattle.history_laws.specs.Arrivals.{is_same_slot, copy_by, is_copied}
+use Rattle.history_laws.specs.Durability.{is_flush, until_flush}
+use Rattle.history_laws.proofs.Arriving.{left_at}
+use Rattle.history_laws.proofs.Commits.{last_or_before, no_items, empty_if}
+use Rattle.history_laws.proofs.Lasting.{opening_is, commits_uncounted}
+use Rattle.history_laws.proofs.Telling.{until-flush, until-other, until_uncounted}
 use Rattle.queue_rows.specs.Legal.{MayStep, IsLegal, opens, reads, steps, IsLegalHistory}
 use Rattle.run_laws.specs.ValidRun.{IsValidWorld}
 use Rattle.run_laws.proofs.Sendings.{arrives_so, confirms_so}
@@ -37,7 +37,7 @@ use Rattle.run_turns.proofs.Sounding.{GrowsTo, grows_on, committed_seen, HasCome
 use Rattle.run_fates.specs.DurableRun.{durable_tables_at, ConfirmedIsSeen, CopiedIsDurable}
 use Rattle.run_fates.proofs.Arrivals.{left_is, same_slot_is}
 use Rattle.run_fates.proofs.Leading.{Led, step_led, AllDurable, step_stays, step_flushes, Carries, keeps, starts, leaves, step_carries}
-use Rattle.history_fates.proofs.Making.{opened_made}
+use Rattle.history_laws.proofs.Making.{opened_made}
 use Rattle.run_fates.proofs.Making.{AreMade, made_from}
 
 -- ---- lists

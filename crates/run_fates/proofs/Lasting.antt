@@ -8,13 +8,13 @@ use Rattle.queue_rows.specs.Valid.{is_valid}
 use Rattle.queue_rows.specs.declared.tables.Tables.{Tables}
 use Rattle.queue_rows.specs.declared.history.History.{History}
 use Rattle.queue_rows.specs.declared.history.SessionScript.{SessionScript}
-use Rattle.fate_laws.specs.Made.{commits_of, changes_of, after_commits, opening_of, tables_after}
-use Rattle.fate_laws.specs.Proper.{AreProper}
-use Rattle.fate_laws.specs.Lasting.{HasFates}
-use Rattle.fate_laws.proofs.Fating.{proper_has_fates}
-use Rattle.world_laws.specs.WorldLaws.{MayBegin}
-use Rattle.history_fates.specs.LegalFates.{opening_at, all_fit, IsMade}
-use Rattle.history_fates.proofs.Lasting.{commits_uncounted, opening_is}
+use Rattle.history_laws.specs.Made.{commits_of, changes_of, after_commits, opening_of, tables_after}
+use Rattle.history_laws.specs.Proper.{AreProper}
+use Rattle.history_laws.specs.Lasting.{HasFates}
+use Rattle.history_laws.proofs.Fating.{proper_has_fates}
+use Rattle.history_laws.specs.WorldLaws.{MayBegin}
+use Rattle.history_laws.specs.LegalFates.{opening_at, all_fit, IsMade}
+use Rattle.history_laws.proofs.Lasting.{commits_uncounted, opening_is}
 use Rattle.queue_rows.specs.Legal.{IsLegalBy, IsLegalHistory}
 use Rattle.run_fates.proofs.Making.{legal_is_sound}
 

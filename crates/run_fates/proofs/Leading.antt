@@ -16,7 +16,7 @@ use Rattle.queue_rows.specs.declared.history.Arrival.TheVariants.{Copied, Seen, 
 use Rattle.queue_rows.specs.declared.history.Step.{Step}
 use Rattle.queue_rows.specs.declared.history.Step.TheVariants.{Call, Park, Timer, Offer, Arrive, Confirm, Told, Flush, End}
 use Rattle.queue_rows.proofs.Sessions.{get_set-cases}
-use Rattle.history_fates.specs.Durability.{is_flush}
+use Rattle.history_laws.specs.Durability.{is_flush}
 use Rattle.queue_rows.specs.Sending.{sent, offers, arrives, confirms, ids_copied, home_of, away_of, pair_number, transit_after, is_durable_at}
 use Rattle.queue_rows.specs.Legal.{MayStep}
 use Rattle.run_laws.proofs.Stepping.{Leads, no_changes, no_ids, only_at, ids_at, world_at, call_leads, call_transit, step_sessions, step_transit, leads_with_session, leads_with_transit, leads_durable}

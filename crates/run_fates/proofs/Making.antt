@@ -23,14 +23,14 @@ use Rattle.queue_rows.specs.declared.statement.Statement.{Statement}
 use Rattle.valid_laws.proofs.Pending.{pairs-one}
 use Rattle.statement_laws.specs.Sessions.{is_addition_of}
 use Rattle.statement_laws.proofs.Administering.{same_is}
-use Rattle.fate_laws.specs.CommitLaws.{IsProperCommit}
-use Rattle.fate_laws.specs.Proper.{ids_put_in}
-use Rattle.fate_laws.proofs.Committing.{due_is_proper, arrival_is_proper, confirmation_is_proper}
-use Rattle.world_laws.specs.WorldLaws.{MayBegin}
+use Rattle.history_laws.specs.CommitLaws.{IsProperCommit}
+use Rattle.history_laws.specs.Proper.{ids_put_in}
+use Rattle.history_laws.proofs.Committing.{due_is_proper, arrival_is_proper, confirmation_is_proper}
+use Rattle.history_laws.specs.WorldLaws.{MayBegin}
 use Rattle.queue_rows.specs.World.{other_db, World, Transit, on_its_way, came, database_at, opened, read_clock, stepped, with_session}
-use Rattle.history_fates.specs.LegalFates.{opening_at, changes_so_far, IsUnused, AreUnused, IsMade, AddsEntry}
-use Rattle.history_fates.proofs.Giving.{Gives, added_below}
-use Rattle.history_fates.proofs.Making.{own_db, own_made, quiet_made, unused_quiet, unused_more, commit_keeps_made, opened_made}
+use Rattle.history_laws.specs.LegalFates.{opening_at, changes_so_far, IsUnused, AreUnused, IsMade, AddsEntry}
+use Rattle.history_laws.proofs.Giving.{Gives, added_below}
+use Rattle.history_laws.proofs.Making.{own_db, own_made, quiet_made, unused_quiet, unused_more, commit_keeps_made, opened_made}
 use Rattle.queue_rows.specs.Sending.{sent, offers, arrives, confirms, next_sending, ids_copied, with_transit}
 use Rattle.queue_rows.specs.Statements.{slot_sent, meaning, next_statement}
 use Rattle.queue_rows.specs.Legal.{MayStep, IsLegal, opens, reads, steps}

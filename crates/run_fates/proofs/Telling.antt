@@ -17,9 +17,9 @@ use Rattle.queue_rows.specs.declared.history.Step.{Step}
 use Rattle.queue_rows.specs.declared.history.Step.TheVariants.{Call, Park, Timer, Offer, Arrive, Confirm, Told, Flush, End}
 use Rattle.queue_rows.specs.declared.reply.Reply.{Reply}
 use Rattle.queue_rows.proofs.Sessions.{get_set-cases}
-use Rattle.history_fates.specs.Durability.{is_flush, until_flush, made, durable, is_call_step, is_call, is_told_step, is_told, ToldIsDurable}
-use Rattle.history_fates.proofs.Commits.{count-more, last_or_before, no_items}
-use Rattle.history_fates.proofs.Telling.{until-flush, until-other, made_first, told_quiet, noted_one, no_call, no_told, other_call, until_uncounted, made_uncounted, untold_at, AreNoted, AreTold}
+use Rattle.history_laws.specs.Durability.{is_flush, until_flush, made, durable, is_call_step, is_call, is_told_step, is_told, ToldIsDurable}
+use Rattle.history_laws.proofs.Commits.{count-more, last_or_before, no_items}
+use Rattle.history_laws.proofs.Telling.{until-flush, until-other, made_first, told_quiet, noted_one, no_call, no_told, other_call, until_uncounted, made_uncounted, untold_at, AreNoted, AreTold}
 use Rattle.queue_rows.specs.Turns.{untold_in, having_called, called}
 use Rattle.queue_rows.specs.Legal.{MayStep, IsLegal, opens, reads, steps, IsLegalHistory}
 use Rattle.run_laws.proofs.Positions.{WasAt, was_at}

@@ -9,10 +9,10 @@ use Rattle.queue_rows.specs.declared.history.History.{History}
 use Rattle.queue_rows.specs.declared.history.SessionScript.{SessionScript}
 use Rattle.queue_rows.specs.declared.history.SlotRef.{SlotRef}
 use Rattle.queue_rows.specs.declared.history.Step.TheVariants.{Confirm}
-use Rattle.world_laws.specs.WorldLaws.{MayBegin}
-use Rattle.history_fates.specs.Arrivals.{is_copied, tables_at}
+use Rattle.history_laws.specs.WorldLaws.{MayBegin}
+use Rattle.history_laws.specs.Arrivals.{is_copied, tables_at}
 use Rattle.queue_rows.specs.World.{other_db}
-use Rattle.history_fates.specs.Durability.{until_flush, made, durable, ToldIsDurable}
+use Rattle.history_laws.specs.Durability.{until_flush, made, durable, ToldIsDurable}
 use Rattle.queue_rows.specs.Legal.{IsLegalHistory}
 use Rattle.queue_rows.specs.Serial.{IsSerial}
 

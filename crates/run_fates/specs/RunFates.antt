@@ -5,11 +5,11 @@ use Rattle.queue_rows.specs.declared.tables.Tables.{Tables}
 use Rattle.queue_rows.specs.declared.history.History.{History}
 use Rattle.queue_rows.specs.declared.history.SessionScript.{SessionScript}
 use Rattle.queue_rows.specs.declared.history.SlotRef.{SlotRef}
-use Rattle.fate_laws.specs.Lasting.{HasFates}
-use Rattle.fate_laws.specs.Made.{commits_of, opening_of, tables_after}
-use Rattle.world_laws.specs.WorldLaws.{MayBegin}
-use Rattle.history_fates.specs.LegalFates.{all_fit}
-use Rattle.history_fates.specs.Arrivals.{IsSeenOnce, HasArrivals}
+use Rattle.history_laws.specs.Lasting.{HasFates}
+use Rattle.history_laws.specs.Made.{commits_of, opening_of, tables_after}
+use Rattle.history_laws.specs.WorldLaws.{MayBegin}
+use Rattle.history_laws.specs.LegalFates.{all_fit}
+use Rattle.history_laws.specs.Arrivals.{IsSeenOnce, HasArrivals}
 use Rattle.queue_rows.specs.World.{database_at}
 use Rattle.queue_rows.specs.Legal.{IsLegalBy, IsLegalHistory}
 

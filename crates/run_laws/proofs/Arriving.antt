@@ -10,7 +10,7 @@ use Rattle.queue_rows.specs.declared.history.SlotRef.{SlotRef}
 use Rattle.queue_rows.specs.declared.history.Cause.{Cause}
 use Rattle.queue_rows.specs.declared.history.Arrival.TheVariants.{Copied, Seen, Failed}
 use Rattle.valid_laws.specs.ArrivalLaws.{MayTakeIn}
-use Rattle.history_fates.proofs.Admitting.{copy_may_be_taken_in}
+use Rattle.history_laws.proofs.Admitting.{copy_may_be_taken_in}
 
 -- the slot was seen, or it fails, or a copy is taken in
 pub data ArrivesAs (there : Tables) (at : SlotRef) (d : Dispatch) (next moment : ℕ) (a : Arriving) : Type 0 where

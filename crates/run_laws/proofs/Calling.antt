@@ -33,15 +33,15 @@ use Rattle.statement_laws.proofs.Adding.{enqueue_adds_right}
 use Rattle.statement_laws.proofs.Administering.{same_is}
 use Rattle.statement_laws.proofs.Standing.{IsCommit, is_commit, IsRollback, is_rollback}
 use Rattle.statement_laws.proofs.Stepping.{HoldsSame, listen_same}
-use Rattle.world_laws.specs.ValidWorld.{IsRight}
-use Rattle.world_laws.proofs.Answering.{answered_fine, answered_right}
-use Rattle.world_laws.proofs.Worlds.{asked, replaced_by}
-use Rattle.history_fates.specs.LocalMarks.{is_remote_at, MarksAreLocal}
-use Rattle.history_fates.proofs.Giving.{Gives, answered_gives}
-use Rattle.history_fates.proofs.Making.{own_db}
-use Rattle.history_fates.proofs.Marking.{MarkedSo, answered_marks, marked_unput}
-use Rattle.history_fates.proofs.Staying.{local_committed}
-use Rattle.mark_laws.proofs.Leaving.{Leaves, answered_leaves}
+use Rattle.history_laws.specs.ValidWorld.{IsRight}
+use Rattle.history_laws.proofs.Answering.{answered_fine, answered_right}
+use Rattle.history_laws.proofs.Worlds.{asked, replaced_by}
+use Rattle.history_laws.specs.LocalMarks.{is_remote_at, MarksAreLocal}
+use Rattle.history_laws.proofs.Giving.{Gives, answered_gives}
+use Rattle.history_laws.proofs.Making.{own_db}
+use Rattle.history_laws.proofs.Marking.{MarkedSo, answered_marks, marked_unput}
+use Rattle.history_laws.proofs.Staying.{local_committed}
+use Rattle.run_laws.proofs.Leaving.{Leaves, answered_leaves}
 use Rattle.queue_rows.specs.Statements.{slot_sent, meaning, next_statement}
 use Rattle.run_laws.specs.ValidRun.{IsBeingSent, IsValidWorld}
 use Rattle.run_laws.proofs.Positions.{dropped_right, dropped_local}

@@ -29,9 +29,9 @@ use Rattle.valid_laws.proofs.Opened.{open_at}
 use Rattle.valid_laws.proofs.Parts.{valid_id}
 use Rattle.valid_laws.proofs.Undone.{due_fits, due_goes}
 use Rattle.statement_laws.proofs.Administering.{same_is}
-use Rattle.fate_laws.proofs.Committing.{due_is_proper, arrival_is_proper, confirmation_is_proper}
-use Rattle.world_laws.specs.ValidWorld.{IsRight}
-use Rattle.mark_laws.proofs.Tabling.{TablesStay, goes_tables, none_stays}
+use Rattle.history_laws.proofs.Committing.{due_is_proper, arrival_is_proper, confirmation_is_proper}
+use Rattle.history_laws.specs.ValidWorld.{IsRight}
+use Rattle.run_laws.proofs.Tabling.{TablesStay, goes_tables, none_stays}
 use Rattle.queue_rows.specs.Statements.{slot_sent, meaning, next_statement}
 use Rattle.queue_rows.specs.Sending.{arrives, confirms, next_sending}
 use Rattle.run_laws.specs.ValidRun.{IsBeingSent, IsValidWorld}

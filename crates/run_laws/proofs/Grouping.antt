@@ -23,13 +23,13 @@ use Rattle.queue_rows.proofs.Sessions.{get_set-cases}
 use Rattle.valid_laws.specs.Openness.{is_open_at}
 use Rattle.valid_laws.proofs.Parts.{valid_distinct}
 use Rattle.statement_laws.proofs.Among.{each_found}
-use Rattle.mark_laws.specs.ChoiceSound.{AreInGroups}
-use Rattle.world_laws.specs.WorldLaws.{MayBegin}
-use Rattle.world_laws.proofs.Worlds.{fresh_empty}
-use Rattle.history_fates.proofs.Making.{own_db}
-use Rattle.mark_laws.specs.GroupedMarks.{group_at, AreOfGroups}
-use Rattle.mark_laws.proofs.Staying.{committed_group}
-use Rattle.mark_laws.proofs.Grouped.{same_group_at, regrouped, all_in_groups}
+use Rattle.message_choice.specs.Sound.{AreInGroups}
+use Rattle.history_laws.specs.WorldLaws.{MayBegin}
+use Rattle.history_laws.proofs.Worlds.{fresh_empty}
+use Rattle.history_laws.proofs.Making.{own_db}
+use Rattle.run_laws.specs.GroupedMarks.{group_at, AreOfGroups}
+use Rattle.run_laws.proofs.Staying.{committed_group}
+use Rattle.run_laws.proofs.Grouped.{same_group_at, regrouped, all_in_groups}
 use Rattle.queue_rows.specs.Sending.{sent, offers, arrives, confirms, ids_copied, with_transit}
 use Rattle.queue_rows.specs.Statements.{meaning, next_statement}
 use Rattle.queue_rows.specs.Legal.{MayStep, IsLegal, opens, reads, steps}

@@ -37,9 +37,9 @@ use Rattle.statement_laws.specs.EnqueueLaws.{AddsIn, Adds}
 use Rattle.statement_laws.proofs.Among.{Says}
 use Rattle.statement_laws.proofs.Framing.{removed_marked}
 use Rattle.statement_laws.proofs.Naming.{commit_names}
-use Rattle.history_fates.specs.LocalMarks.{is_remote_at}
-use Rattle.history_fates.proofs.Looking.{may_take_local}
-use Rattle.mark_laws.proofs.Looking.{look_at, dequeue_so}
+use Rattle.history_laws.specs.LocalMarks.{is_remote_at}
+use Rattle.history_laws.proofs.Looking.{may_take_local}
+use Rattle.run_laws.proofs.Looking.{look_at, dequeue_so}
 use Rattle.run_laws.proofs.Resting.{touches}
 
 -- the changes name no slot that goes to the other database, and leave schedules

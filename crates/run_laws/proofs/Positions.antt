@@ -15,8 +15,8 @@ use Rattle.queue_rows.specs.declared.change.Change.TheVariants as changes
 use Rattle.valid_laws.specs.PendingLaws.{count_passed}
 use Rattle.valid_laws.proofs.Framing.{room_less}
 use Rattle.statement_laws.specs.StandingLaws.{StandsIn, AreTwo, count_held, AreStanding}
-use Rattle.world_laws.specs.ValidWorld.{IsRight}
-use Rattle.history_fates.specs.LocalMarks.{MarksAreLocal}
+use Rattle.history_laws.specs.ValidWorld.{IsRight}
+use Rattle.history_laws.specs.LocalMarks.{MarksAreLocal}
 
 -- the session stands elsewhere, and is the same else
 abbrev pub standing_at : Session → List Position → Session

@@ -27,10 +27,10 @@ use Rattle.valid_laws.specs.Openness.{is_open_slot, is_open_at, is_finished, may
 use Rattle.valid_laws.specs.Touching.{is_of_slot, puts_in, is_proper, are_proper}
 use Rattle.valid_laws.proofs.Opened.{open_of, finished_closed}
 use Rattle.valid_laws.proofs.Parts.{valid_distinct}
-use Rattle.fate_laws.proofs.Agreeing.{finds_without_table}
-use Rattle.fate_laws.proofs.Holding.{proper_parts}
-use Rattle.history_fates.proofs.Commits.{empty_if}
-use Rattle.mark_laws.proofs.Staying.{committed_messages}
+use Rattle.history_laws.proofs.Agreeing.{finds_without_table}
+use Rattle.history_laws.proofs.Holding.{proper_parts}
+use Rattle.history_laws.proofs.Commits.{empty_if}
+use Rattle.run_laws.proofs.Staying.{committed_messages}
 use Rattle.run_laws.specs.ValidRun.{IsBeingSent}
 
 -- it changes schedules, or drops a queue with its messages

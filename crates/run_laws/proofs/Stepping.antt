@@ -11,9 +11,9 @@ use Rattle.queue_rows.specs.declared.reply.Reply.{Reply}
 use Rattle.queue_rows.specs.declared.history.Entry.{Entry}
 use Rattle.queue_rows.specs.declared.history.Step.{Step}
 use Rattle.queue_rows.specs.declared.history.Step.TheVariants.{Call}
-use Rattle.fate_laws.specs.Made.{changes_at}
-use Rattle.world_laws.specs.ValidWorld.{AreScripts, IsRight}
-use Rattle.history_fates.specs.LocalMarks.{MarksAreLocal}
+use Rattle.history_laws.specs.Made.{changes_at}
+use Rattle.history_laws.specs.ValidWorld.{AreScripts, IsRight}
+use Rattle.history_laws.specs.LocalMarks.{MarksAreLocal}
 use Rattle.queue_rows.specs.Sending.{taking_ids, with_transit}
 use Rattle.run_laws.specs.ValidRun.{IsBeingSent, IsValidWorld}
 

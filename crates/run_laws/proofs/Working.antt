@@ -36,14 +36,14 @@ use Rattle.statement_laws.specs.StandingLaws.{AreStanding}
 use Rattle.statement_laws.proofs.Administering.{beside_keeps, held_standing}
 use Rattle.statement_laws.proofs.Standing.{due_keeps_standing}
 use Rattle.statement_laws.proofs.Stepping.{arrival_keeps_standing}
-use Rattle.fate_laws.proofs.Committing.{due_is_proper, arrival_is_proper, confirmation_is_proper}
-use Rattle.world_laws.specs.ValidWorld.{IsRight}
-use Rattle.world_laws.proofs.Plain.{is_plain, committed_fields, committed_latest}
-use Rattle.world_laws.proofs.Answering.{committed_valid}
-use Rattle.history_fates.specs.LocalMarks.{is_remote_at, MarksAreLocal}
-use Rattle.history_fates.proofs.Marking.{sent_confirmation_keeps_standing}
-use Rattle.history_fates.proofs.Sending.{sent_is_remote}
-use Rattle.history_fates.proofs.Staying.{local_committed}
+use Rattle.history_laws.proofs.Committing.{due_is_proper, arrival_is_proper, confirmation_is_proper}
+use Rattle.history_laws.specs.ValidWorld.{IsRight}
+use Rattle.history_laws.proofs.Plain.{is_plain, committed_fields, committed_latest}
+use Rattle.history_laws.proofs.Answering.{committed_valid}
+use Rattle.history_laws.specs.LocalMarks.{is_remote_at, MarksAreLocal}
+use Rattle.history_laws.proofs.Marking.{sent_confirmation_keeps_standing}
+use Rattle.history_laws.proofs.Sending.{sent_is_remote}
+use Rattle.history_laws.proofs.Staying.{local_committed}
 use Rattle.run_laws.specs.ValidRun.{IsBeingSent}
 use Rattle.run_laws.proofs.Resting.{touches, sent_open, sent_rests}
 

@@ -27,11 +27,11 @@ use Rattle.statement_laws.proofs.Administering.{same_is}
 use Rattle.statement_laws.proofs.Framing.{same_db, count_set}
 use Rattle.statement_laws.proofs.Standing.{empty_stands, empty_two, two_empty, standing_later, replaced_standing}
 use Rattle.statement_laws.proofs.Stepping.{same_standing}
-use Rattle.world_laws.specs.ValidWorld.{AreScripts, IsRight}
-use Rattle.world_laws.specs.WorldLaws.{MayBegin}
-use Rattle.world_laws.proofs.Worlds.{fresh_empty, latest_within, opened_right, opening_within, replaced_by}
-use Rattle.history_fates.specs.LocalMarks.{is_remote_at, MarksAreLocal}
-use Rattle.history_fates.proofs.Making.{own_db}
+use Rattle.history_laws.specs.ValidWorld.{AreScripts, IsRight}
+use Rattle.history_laws.specs.WorldLaws.{MayBegin}
+use Rattle.history_laws.proofs.Worlds.{fresh_empty, latest_within, opened_right, opening_within, replaced_by}
+use Rattle.history_laws.specs.LocalMarks.{is_remote_at, MarksAreLocal}
+use Rattle.history_laws.proofs.Making.{own_db}
 use Rattle.queue_rows.specs.Sending.{taking_ids, with_transit, home_of, away_of, offers, arrives, confirms, next_sending, ids_copied, transit_after, sent}
 use Rattle.queue_rows.specs.Statements.{slot_sent}
 use Rattle.queue_rows.specs.Turns.{due_at, timed, all_durable}

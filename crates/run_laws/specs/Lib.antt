@@ -1,3 +1,4 @@
+pub mod GroupedMarks
 pub mod RunLaws
 pub mod ValidRun
-pub use Rattle.world_laws.specs.WorldLaws
+pub use Rattle.history_laws.specs.WorldLaws

@@ -4,9 +4,9 @@ use Rattle.queue_rows.specs.Session.{Session}
 use Rattle.queue_rows.specs.declared.tables.Tables.{Tables}
 use Rattle.queue_rows.specs.declared.history.SessionScript.{SessionScript}
 use Rattle.queue_rows.specs.declared.history.Step.{Step}
-use Rattle.mark_laws.specs.ChoiceSound.{AreInGroups}
-use Rattle.world_laws.specs.WorldLaws.{MayBegin}
-use Rattle.mark_laws.specs.GroupedMarks.{AreOfGroups}
+use Rattle.message_choice.specs.Sound.{AreInGroups}
+use Rattle.history_laws.specs.WorldLaws.{MayBegin}
+use Rattle.run_laws.specs.GroupedMarks.{AreOfGroups}
 use Rattle.queue_rows.specs.World.{World, database_at, opened, read_clock}
 use Rattle.queue_rows.specs.Legal.{MayStep, IsLegal}
 use Rattle.run_laws.specs.ValidRun.{IsValidWorld}

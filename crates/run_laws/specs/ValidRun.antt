@@ -10,8 +10,8 @@ use Rattle.queue_rows.specs.declared.rows.MsgRow.{MsgRow}
 use Rattle.queue_rows.specs.declared.rows.SlotRow.{SlotRow}
 use Rattle.queue_rows.specs.declared.rows.ScheduleRow.{ScheduleRow}
 use Rattle.queue_rows.specs.declared.history.SlotRef.{SlotRef}
-use Rattle.world_laws.specs.ValidWorld.{AreScripts, IsRight}
-use Rattle.history_fates.specs.LocalMarks.{MarksAreLocal}
+use Rattle.history_laws.specs.ValidWorld.{AreScripts, IsRight}
+use Rattle.history_laws.specs.LocalMarks.{MarksAreLocal}
 use Rattle.queue_rows.specs.World.{World, Transit, database_at}
 
 -- A slot that is being sent is there and ready, goes to the other database, and has its schedule, which failed fifteen times in a row at

@@ -32,8 +32,8 @@ use Rattle.statement_laws.proofs.Among.{Says, says_so}
 use Rattle.statement_laws.proofs.Standing.{IsCommit, is_commit, IsRollback, is_rollback}
 use Rattle.statement_laws.proofs.Stepping.{HoldsSame, listen_same}
 use Rattle.statement_laws.proofs.Taking.{dequeue_removes_open}
-use Rattle.world_laws.proofs.Worlds.{all_at, asked}
-use Rattle.history_fates.proofs.Making.{own_db}
+use Rattle.history_laws.proofs.Worlds.{all_at, asked}
+use Rattle.history_laws.proofs.Making.{own_db}
 use Rattle.queue_rows.specs.World.{World, database_at}
 use Rattle.run_laws.specs.ValidRun.{IsValidWorld}
 use Rattle.run_spellings.specs.SpellableRun.{AreFullAdditions, AreSpellable, asks_text_rule, has_text_rule, have_text_rules, IsFullAddition, IsSpellableWorld}

@@ -23,9 +23,9 @@ use Rattle.queue_rows.specs.declared.history.Step.TheVariants.{Call, Park, Timer
 use Rattle.queue_rows.specs.declared.reply.Reply.{Reply}
 use Rattle.queue_rows.specs.declared.statement.Statement.{Statement}
 use Rattle.queue_rows.proofs.Sessions.{get_set-cases}
-use Rattle.fate_laws.specs.Made.{changes_at, commit_at, commits_of}
-use Rattle.world_laws.specs.WorldLaws.{MayBegin}
-use Rattle.world_laws.proofs.Worlds.{fresh_empty}
+use Rattle.history_laws.specs.Made.{changes_at, commit_at, commits_of}
+use Rattle.history_laws.specs.WorldLaws.{MayBegin}
+use Rattle.history_laws.proofs.Worlds.{fresh_empty}
 use Rattle.queue_rows.specs.Sending.{sent, offers, arrives, confirms, next_sending, ids_copied, with_transit}
 use Rattle.queue_rows.specs.Statements.{slot_sent, meaning, next_statement}
 use Rattle.queue_rows.specs.Legal.{MayStep, IsLegal, opens, reads, steps, IsLegalBy, IsLegalHistory}

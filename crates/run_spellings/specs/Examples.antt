@@ -15,7 +15,7 @@ use Rattle.queue_rows.specs.declared.history.SessionScript.{SessionScript}
 use Rattle.queue_rows.specs.declared.statement.Admin.TheVariants as asks
 use Rattle.queue_rows.specs.declared.statement.Statement.TheVariants as statements
 use Rattle.valid_laws.specs.Examples.{example_message, example_tables, example_left}
-use Rattle.history_fates.specs.Examples.{script_of}
+use Rattle.history_laws.specs.Examples.{script_of}
 use Rattle.redo_records.specs.Spellable.{HasFullData}
 use Rattle.run_spellings.specs.SpellableRun.{have_text_rules, MayBeSpelled}
 

@@ -20,8 +20,8 @@ use Rattle.queue_rows.specs.declared.history.SlotRef.{SlotRef}
 use Rattle.queue_rows.specs.declared.history.Step.{Step}
 use Rattle.queue_rows.specs.declared.reply.Reply.{Reply}
 use Rattle.queue_rows.specs.declared.statement.Statement.{Statement}
-use Rattle.fate_laws.specs.Made.{commits_of}
-use Rattle.world_laws.specs.WorldLaws.{MayBegin}
+use Rattle.history_laws.specs.Made.{commits_of}
+use Rattle.history_laws.specs.WorldLaws.{MayBegin}
 use Rattle.database_recovery.specs.Sound.{IsSound}
 use Rattle.queue_rows.specs.Sending.{Sending, next_sending}
 use Rattle.queue_rows.specs.Statements.{meaning, next_statement}

@@ -16,7 +16,7 @@ use Rattle.std.proofs.lemmas.Grind.{common_steps}
 use Rattle.aq_base.specs.declared.DbId.{DbId}
 use Rattle.aq_base.specs.declared.DbId.TheVariants.{Home}
 use Rattle.aq_base.specs.declared.limits.TheConstants.{SESSION_LIMIT, STATEMENT_LIMIT}
-use Rattle.world_laws.specs.Ordered.{is_ordered}
+use Rattle.history_laws.specs.Ordered.{is_ordered}
 use Rattle.queue_rows.specs.Distinct.{are_distinct}
 use Rattle.queue_rows.specs.Rows.{set_some, changed_some}
 use Rattle.queue_rows.specs.Within.{is_within, is_session_name, is_script_within, statement_count, are_within}

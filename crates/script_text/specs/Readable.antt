@@ -2,7 +2,7 @@
 use Rattle.std.specs.Prelude.{◌≡◌, ◌≤◌, ◌&&◌, nat_le, Bool, true, not, List, length, is_some}
 use Rattle.std.specs.List.{list_all}
 use Rattle.aq_base.specs.declared.limits.TheConstants.{AGENT_LIMIT, SESSION_LIMIT}
-use Rattle.world_laws.specs.Ordered.{is_ordered, are_ordered}
+use Rattle.history_laws.specs.Ordered.{is_ordered, are_ordered}
 use Rattle.queue_rows.specs.Within.{if_some, is_priority, is_time, is_span, is_id, is_agent, is_session_name, is_within, are_within}
 use Rattle.queue_rows.specs.declared.history.SessionScript.{SessionScript}
 use Rattle.queue_rows.specs.declared.statement.Listener.{Listener}

@@ -2,7 +2,7 @@
 ghost use Rattle.std.specs.Prelude.{◌≡◌, IfOk, IsErrOf, Some, None, nat_le, true};
 ghost use Rattle.serde_json.specs.View.{view};
 ghost use Rattle.aq_base.specs.declared.limits.TheConstants.{MAX_RETRIES_LIMIT};
-ghost use Rattle.world_laws.specs.Ordered.{asks_ordered};
+ghost use Rattle.history_laws.specs.Ordered.{asks_ordered};
 ghost use Rattle.queue_rows.specs.Within.{is_admin_within};
 ghost use Rattle.script_text.specs.Statement.{create_table, drop_table, max_retries_at, create_queue, drop_queue, start_queue, stop_queue, add_subscriber, remove_subscriber, schedule, unschedule, enable_schedule, disable_schedule};
 

@@ -1,7 +1,7 @@
 // The statement that a line asks.
 ghost use Rattle.std.specs.Prelude.{◌≡◌, IfOk, IfSome, IsErrOf, Some, None, codes, option_and_then, true};
 ghost use Rattle.serde_json.specs.View.{view};
-ghost use Rattle.world_laws.specs.Ordered.{is_ordered};
+ghost use Rattle.history_laws.specs.Ordered.{is_ordered};
 ghost use Rattle.queue_rows.specs.Within.{is_within};
 ghost use Rattle.script_text.specs.Form.{verb_of};
 ghost use Rattle.script_text.specs.Member.{text_at};

@@ -1,7 +1,7 @@
 use Rattle.std.proofs.Common.{◌≡◌, ◌⊎◌, inl, inr, ℕ, List, sym, subst, arith}
 use Rattle.std.specs.Io.KnownBytes.{Appends}
 use Rattle.queue_rows.specs.declared.tables.Tables.{Tables}
-use Rattle.world_laws.specs.ValidWorld.{AreScripts}
+use Rattle.history_laws.specs.ValidWorld.{AreScripts}
 use Rattle.aq_run.specs.Serve.{dump_text, IsRun, WritesFront}
 use Rattle.aq_run.proofs.Answering.{is_recovered}
 use Rattle.aq_run.proofs.Leaving.{leaves_mounted}

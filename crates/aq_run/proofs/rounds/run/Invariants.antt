@@ -1,4 +1,4 @@
-use Rattle.durable_state.specs.Held.{HasFailed}
+use Rattle.aq_world.specs.Held.{HasFailed}
 use Rattle.aq_run.specs.Passing.{Passes}
 use Rattle.aq_run.proofs.Running.{IsAfter, IsOnTime, left_of}
 use Rattle.aq_run.proofs.rounds.run.Given as goal

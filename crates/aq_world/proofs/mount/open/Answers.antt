@@ -1,7 +1,7 @@
 use Rattle.std.proofs.Common.{[], Ok, sym, ap, subst, ◌∙◌}
 use Rattle.durable_state.specs.Sound.{IsSound}
 use Rattle.aq_world.specs.Mounting.{KeepsRecovered}
-use Rattle.aq_world.specs.Sound.{IsRunning}
+use Rattle.next_steps.specs.Sound.{IsRunning}
 use Rattle.aq_world.proofs.Mounting.{if_passed, keeps_opened}
 use Rattle.aq_world.proofs.Running.{opened_running, began_opened, began_home, began_away}
 use Rattle.aq_world.proofs.Soundness.{may_begin}

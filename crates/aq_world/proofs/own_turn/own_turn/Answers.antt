@@ -1,7 +1,7 @@
 use Rattle.std.proofs.Common.{Some, ap, subst, ◌∙◌}
 use Rattle.std.specs.Prelude.{slice_get}
 use Rattle.session_registry.specs.Sessions.{OfSession}
-use Rattle.aq_world.specs.Stepping.{IsNext}
+use Rattle.next_steps.specs.Stepping.{IsNext}
 use Rattle.aq_world.proofs.OwnTurns.{of_each, of_both, call_turn, call_end, park_turn, park_end, end_turn, end_end}
 use Rattle.aq_world.proofs.Goings.{quiet_by, quiet_same}
 use Rattle.aq_world.proofs.own_turn.own_turn.Goals as goal

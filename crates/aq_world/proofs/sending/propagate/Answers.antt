@@ -2,8 +2,8 @@ use Rattle.std.proofs.Common.{◌≡◌, Some, option_map, sym, ap, subst, ◌�
 use Rattle.queue_rows.specs.Order.{IsFront}
 use Rattle.queue_rows.specs.Sending.{next_sending}
 use Rattle.queue_rows.specs.Turns.{propagated}
-use Rattle.aq_world.specs.Sendings.{sending_meant}
-use Rattle.aq_world.proofs.Sendings.{ready_front, sent_whole}
+use Rattle.next_steps.specs.Sendings.{sending_meant}
+use Rattle.next_steps.proofs.Sendings.{ready_front, sent_whole}
 use Rattle.aq_world.proofs.Turning.{at_err}
 use Rattle.aq_world.proofs.Goings.{as_memory, as_ok, as_passed, quiet_ok, quiet_on, quiet_same}
 use Rattle.aq_world.proofs.sending.propagate.Goals as goal

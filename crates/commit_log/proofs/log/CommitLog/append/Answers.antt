@@ -4,7 +4,7 @@ use Rattle.aq_disk.specs.Disk.{EachImage}
 use Rattle.queue_rows.specs.declared.tables.Tables.{Tables}
 use Rattle.queue_rows.specs.declared.change.Commit.{Commit}
 use Rattle.redo_journal.specs.Journaled.{Journaled}
-use Rattle.fate_laws.specs.Made.{after_commits}
+use Rattle.history_laws.specs.Made.{after_commits}
 use Rattle.crash_laws.specs.Crash.{Recovers, RecoversEither}
 use Rattle.commit_log.specs.Logged.{AreLoggable, Logs}
 use Rattle.commit_log.proofs.Logging.{append_leaves, behind, written}

@@ -1,6 +1,6 @@
 use Rattle.std.proofs.Common.{ℕ, ◌<◌, sym, subst, ◌∙◌, ap, length}
 use Rattle.queue_rows.specs.declared.rows.MsgRow.{MsgRow}
-use Rattle.ready_slots.specs.Indexed.{IndexesReady}
+use Rattle.remote_slots.specs.Indexed.{IndexesReady}
 use Rattle.remote_slots.specs.Remote.{IndexesRemote}
 use Rattle.open_rows.specs.Rows.{Rows}
 use Rattle.message_index.proofs.MessageLemmas.{ids_edited}

@@ -1,6 +1,6 @@
 use Rattle.std.proofs.Common.{◌++◌, ◌∷◌, [], ap, ◌∙◌, sym}
 use Rattle.std.proofs.lemmas.List.{map-append}
-use Rattle.ready_slots.specs.Indexed.{IndexesReady}
+use Rattle.remote_slots.specs.Indexed.{IndexesReady}
 use Rattle.remote_slots.specs.Remote.{IndexesRemote}
 use Rattle.message_index.proofs.IndexLemmas.{due_pushed, pushed}
 use Rattle.message_index.proofs.open_messages.OpenMessages.push.Goals as goal

@@ -1,7 +1,7 @@
 use Rattle.std.proofs.Common.{ℕ, ◌<◌, length, List, ap, ◌∙◌, sym, subst}
 use Rattle.std.specs.Prelude.{remove}
 use Rattle.queue_rows.specs.declared.rows.MsgRow.{MsgRow}
-use Rattle.ready_slots.specs.Indexed.{IndexesReady}
+use Rattle.remote_slots.specs.Indexed.{IndexesReady}
 use Rattle.remote_slots.specs.Remote.{IndexesRemote}
 use Rattle.message_index.specs.DueKept.{IfDue, keeps_in}
 use Rattle.message_index.specs.declared.due_cache.KeepRow.{KeepRow}

@@ -1,6 +1,6 @@
 use Rattle.std.proofs.Common.{[], ◌∷◌, ◌++◌, length, refl, ap, ◌∙◌}
 use Rattle.std.proofs.lemmas.List.{length-map}
-use Rattle.ready_slots.specs.Indexed.{IndexesReady}
+use Rattle.remote_slots.specs.Indexed.{IndexesReady}
 use Rattle.message_index.proofs.EntryLemmas.{all_gone, as_long, index_grown, longer, split_on, stamp_left}
 use Rattle.message_index.proofs.ready_cache.ReadyCache.of.Goals as goal
 

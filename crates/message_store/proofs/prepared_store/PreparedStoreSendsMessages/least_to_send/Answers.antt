@@ -1,7 +1,7 @@
 use Rattle.std.proofs.Common.{All, List, ap, sym, subst, ◌∙◌}
 use Rattle.queue_rows.specs.declared.rows.MsgRow.{MsgRow}
-use Rattle.remote_slots.specs.Few.{HasFewSlots}
-use Rattle.remote_slots.specs.Searched.{sent_first}
+use Rattle.message_index.specs.Few.{HasFewSlots}
+use Rattle.message_index.specs.Searched.{sent_first}
 use Rattle.message_store.specs.Stored.{Stored}
 use Rattle.message_index.proofs.EntryLemmas.{entries_rise, messages_are}
 use Rattle.message_store.proofs.prepared_store.PreparedStoreSendsMessages.least_to_send.Goals as goal

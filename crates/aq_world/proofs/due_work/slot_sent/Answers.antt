@@ -1,8 +1,0 @@
-use Rattle.std.proofs.Common.{Some, option_map, sym, ap, ◌∙◌}
-use Rattle.std.specs.Prelude.{option_copied}
-use Rattle.run_state.specs.Sendings.{transit_of}
-use Rattle.aq_world.proofs.Sizes.{sent_slot}
-use Rattle.aq_world.proofs.due_work.slot_sent.Goals as goal
-
-pub returns-in-Some : goal.returns-in-Some
-returns-in-Some c = sent_slot (Some c.in-Some.transit.now) c.args.state.now (sym (ap (λ o. option_map transit_of (option_copied o)) c.in-Some.is) ∙ c.transit.ensures)

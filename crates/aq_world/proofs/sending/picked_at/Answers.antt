@@ -1,6 +1,0 @@
-use Rattle.std.proofs.Common.{ap, ◌∙◌}
-use Rattle.aq_world.proofs.Sizes.{few_slots_at}
-use Rattle.aq_world.proofs.sending.picked_at.Goals as goal
-
-pub pick-requires : goal.pick-requires
-pick-requires c = few_slots_at c.args.state.now c.args.db _ (c.store.ensures ∙ ap (λ d. d.tables) c.database.ensures) c.requires

@@ -1,9 +1,0 @@
-pub mod Agreeing
-pub mod Commits
-pub mod Committing
-pub mod Courses
-pub mod Fating
-pub mod Holding
-pub mod Judging
-pub mod Naming
-pub mod Opening

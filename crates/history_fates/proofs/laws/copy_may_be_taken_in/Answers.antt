@@ -1,5 +1,0 @@
-use Rattle.history_fates.proofs.Admitting.{copy_may_be_taken_in}
-use Rattle.history_fates.proofs.laws.copy_may_be_taken_in.Goals as goal
-
-pub returns : goal.returns
-returns c = copy_may_be_taken_in

@@ -1,2 +1,0 @@
-pub mod GroupedMarks
-pub use Rattle.message_choice.specs.Sound as ChoiceSound

@@ -1,0 +1,7 @@
+pub mod Calls
+pub mod Doings
+pub mod Numbers
+pub mod Pends
+pub mod Sendings
+pub mod Sizes
+pub mod Waits

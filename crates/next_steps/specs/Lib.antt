@@ -1,0 +1,4 @@
+pub mod Calling
+pub mod Sendings
+pub mod Sound
+pub mod Stepping

@@ -1,4 +1,0 @@
-pub mod Examples
-pub mod Ordered
-pub mod ValidWorld
-pub mod WorldLaws

@@ -1,7 +1,0 @@
-// A law over the definitions of `queue_rows`, a function without a body.
-ghost use Rattle.world_laws.specs.Examples.{ExampleBegins};
-
-/// A history may begin with the tables of the example and its script.
-pub fn example_begins()
-    ensures { ExampleBegins }
-{}
