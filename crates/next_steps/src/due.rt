@@ -13,7 +13,7 @@ use time_manager::due;
 
 /// The slot that is being sent, if one is.
 #[tactic(auto, using(crate::proofs::Sizes::sent_slot))]
-pub fn slot_sent(state: &RunState) -> Option<SlotRef>
+pub(crate) fn slot_sent(state: &RunState) -> Option<SlotRef>
     ensures { result ≡ slot_sent state.now }
 {
     match state.transit() {

@@ -50,7 +50,8 @@ const AT: SlotRef = SlotRef {
 
 fn is_sent(origin: &PreparedStore, at: &SlotRef) -> bool
     ensures sent { IsTrue result → IsSome (dispatch origin.now.tables at.now) }
-    ensures failures { IsTrue result → IfSome (dispatch origin.now.tables at.now) (λ d. d.schedule.failures ≤ 15) }
+    ensures failures { IsTrue result
+        → IfSome (dispatch origin.now.tables at.now) (λ d. d.schedule.failures ≤ 15) }
 {
     match schedule_of(origin, at) {
         Some(schedule) => schedule.failures <= 15,
