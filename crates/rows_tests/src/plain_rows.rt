@@ -1,11 +1,11 @@
 // The rows that commits put.
-use payload_records::{List, Name, NameFault, Record, RecordType, Shared};
+use crate::rows::{facts_of, message_of};
+use payload_records::{List, Name, NameFault, RecordType};
 use place_keys::{Place, SortList};
 use queue_rows::{
     MsgRow, QueueKind, QueueRow, ScheduleRow, SeenRow, SlotRow, SlotState, SubRow, TableRow,
 };
-use rule_conditions::Facts;
-use std::alloc::{AllocError, Global};
+use std::alloc::Global;
 
 // ---- a queue table, its queues
 
@@ -122,36 +122,11 @@ fn add_slot(alloc: Global, slots: &mut List<SlotRow>) -> Result<(), NameFault> {
     Ok(slots.push(slot(name))?)
 }
 
-/// Facts of which nothing is known but the priority.
-fn facts(alloc: Global) -> Result<Facts, AllocError> {
-    let cells = Shared::new(alloc, List::new(alloc))?;
-    Ok(Facts {
-        priority: 1,
-        corr: None,
-        cells: Record { cells },
-        props: List::new(alloc),
-    })
-}
-
-fn message_of(id: u32, queue: Name, place: Place, facts: Facts, slots: List<SlotRow>) -> MsgRow {
-    MsgRow {
-        id: u64::from(id),
-        queue,
-        place,
-        facts,
-        exception: None,
-        enq: 1,
-        group: 1,
-        moved: false,
-        slots,
-    }
-}
-
 /// A message of a queue in that lane and of the group 1, without a slot.
 fn bare_message(alloc: Global, id: u32, queue: &str, lane: i64) -> Result<MsgRow, NameFault> {
     let queue = Name::read(alloc, queue)?;
     let place = Place::of(alloc, lane, &[1], u64::from(id))?;
-    let facts = facts(alloc)?;
+    let facts = facts_of(alloc, 1, None)?;
     Ok(message_of(id, queue, place, facts, List::new(alloc)))
 }
 
