@@ -5,7 +5,6 @@ pub mod Arriving
 pub mod Commits
 pub mod Committing
 pub mod Copying
-pub mod Courses
 pub mod Example
 pub mod Fating
 pub mod Giving
@@ -22,6 +21,7 @@ pub mod Plain
 pub mod ProperCommits
 pub mod Seeing
 pub mod Sending
+pub mod SlotFates
 pub mod Staying
 pub mod Telling
 pub mod Worlds

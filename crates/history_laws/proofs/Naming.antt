@@ -8,7 +8,7 @@ use Rattle.std.proofs.lemmas.Option.{none-some}
 use Rattle.std.proofs.lemmas.List.Sums.{sum_by-cons}
 use Rattle.queue_rows.specs.Rows.{find_message, find_queue, has_slot, slot_of}
 use Rattle.queue_rows.specs.Tables.{after_change}
-use Rattle.history_laws.specs.Fates.{Fate, ready, processed, fate_in, is_final, Course, course_of, with_fate, in_queue, said, retried_fate, moved_course, without_queue, course_after, is_made_of, names, is_done}
+use Rattle.history_laws.specs.Fates.{Fate, ready, processed, fate_in, is_final, SlotFate, slot_fate_of, with_fate, in_queue, said, retried_fate, moved_slot_fate, without_queue, slot_fate_after, is_made_of, names, is_done}
 use Rattle.history_laws.specs.Fates as fates
 use Rattle.valid_laws.specs.Openness.{is_open_at, is_finished, may_move}
 use Rattle.history_laws.specs.Proper.{ids_put_in}
@@ -21,23 +21,23 @@ use Rattle.queue_rows.specs.declared.change.Change.TheVariants as changes
 use Rattle.row_laws.proofs.Finding.{find-yes}
 use Rattle.row_laws.proofs.Slots.{slot_of-has, slot_of-zero}
 use Rattle.valid_laws.proofs.Opened.{open_at, found_with}
-use Rattle.history_laws.proofs.Courses.{AgreesSo, final_course, final_is_some, open_course}
+use Rattle.history_laws.proofs.SlotFates.{AgreesSo, final_slot_fate, final_is_some, open_slot_fate}
 use Rattle.history_laws.proofs.Agreeing.{without_final, without_some}
 use Rattle.history_laws.proofs.Holding.{Holds, holds_after, proper_parts, said_some}
 
--- ---- an open slot has a course that is not final
+-- ---- an open slot has a slot fate that is not final
 
-course_at : (o : Option MsgRow) (m : MsgRow) (slot : ℕ) (course : Option Course) → o ≡ Some m → AgreesSo o slot course → course ≡ course_of slot m
-course_at o m slot course e k = let h : AgreesSo (Some m) slot course = subst (λ x. AgreesSo x slot course) e k in h
+slot_fate_at : (o : Option MsgRow) (m : MsgRow) (slot : ℕ) (slot_fate : Option SlotFate) → o ≡ Some m → AgreesSo o slot slot_fate → slot_fate ≡ slot_fate_of slot m
+slot_fate_at o m slot slot_fate e k = let h : AgreesSo (Some m) slot slot_fate = subst (λ x. AgreesSo x slot slot_fate) e k in h
 
-pub open_isnt_final : (t : Tables) (id slot : ℕ) (course : Option Course) → AgreesSo (find_message t id) slot course → is_open_at t id slot ≡ true → final_course course ≡ false
-open_isnt_final t id slot course k p =
-    let o = open_at t id slot p in ap final_course (course_at (find_message t id) o.message slot course o.found k) ∙ open_course o.message slot o.open_there
+pub open_isnt_final : (t : Tables) (id slot : ℕ) (slot_fate : Option SlotFate) → AgreesSo (find_message t id) slot slot_fate → is_open_at t id slot ≡ true → final_slot_fate slot_fate ≡ false
+open_isnt_final t id slot slot_fate k p =
+    let o = open_at t id slot p in ap final_slot_fate (slot_fate_at (find_message t id) o.message slot slot_fate o.found k) ∙ open_slot_fate o.message slot o.open_there
 
-open_some : (t : Tables) (id slot : ℕ) (course : Option Course) → AgreesSo (find_message t id) slot course → is_open_at t id slot ≡ true → is_some course ≡ true
-open_some t id slot course k p =
+open_some : (t : Tables) (id slot : ℕ) (slot_fate : Option SlotFate) → AgreesSo (find_message t id) slot slot_fate → is_open_at t id slot ≡ true → is_some slot_fate ≡ true
+open_some t id slot slot_fate k p =
     let o = open_at t id slot p in
-    ap is_some (course_at (find_message t id) o.message slot course o.found k) ∙ rw (o.open_there.there) refl
+    ap is_some (slot_fate_at (find_message t id) o.message slot slot_fate o.found k) ∙ rw (o.open_there.there) refl
 
 -- the change names this slot
 pair_is : (named a id slot : ℕ) (t : Tables) → ((named == id) && (a == slot)) ≡ true → is_open_at t named a ≡ true → is_open_at t id slot ≡ true
@@ -47,98 +47,98 @@ pair_is named a id slot t e p =
 
 -- ---- after a final fate no change names the slot
 
-slot_unnamed : (t : Tables) (named a id slot : ℕ) (course : Option Course) (b : Bool) → ((named == id) && (a == slot)) ≡ b → AgreesSo (find_message t id) slot course → is_open_at t named a ≡ true
-    → final_course course ≡ true → ((named == id) && (a == slot)) ≡ false
-slot_unnamed t named a id slot course true e k p f = absurd (true≢false (sym f ∙ open_isnt_final t id slot course k (pair_is named a id slot t e p)))
-slot_unnamed t named a id slot course false e k p f = e
+slot_unnamed : (t : Tables) (named a id slot : ℕ) (slot_fate : Option SlotFate) (b : Bool) → ((named == id) && (a == slot)) ≡ b → AgreesSo (find_message t id) slot slot_fate → is_open_at t named a ≡ true
+    → final_slot_fate slot_fate ≡ true → ((named == id) && (a == slot)) ≡ false
+slot_unnamed t named a id slot slot_fate true e k p f = absurd (true≢false (sym f ∙ open_isnt_final t id slot slot_fate k (pair_is named a id slot t e p)))
+slot_unnamed t named a id slot slot_fate false e k p f = e
 
-zero_unnamed : (t : Tables) (named id slot : ℕ) (course : Option Course) (b : Bool) → ((named == id) && (slot == 0)) ≡ b → AgreesSo (find_message t id) slot course
-    → option_map_or may_move (find_message t named) false ≡ true → final_course course ≡ true → ((named == id) && (slot == 0)) ≡ false
-zero_unnamed t named id slot course true e k p f =
+zero_unnamed : (t : Tables) (named id slot : ℕ) (slot_fate : Option SlotFate) (b : Bool) → ((named == id) && (slot == 0)) ≡ b → AgreesSo (find_message t id) slot slot_fate
+    → option_map_or may_move (find_message t named) false ≡ true → final_slot_fate slot_fate ≡ true → ((named == id) && (slot == 0)) ≡ false
+zero_unnamed t named id slot slot_fate true e k p f =
     let parts = and_parts (named == id) (slot == 0) e in
     let o = found_with t named may_move p in
     let found : find_message t id ≡ Some o.0 = ap (find_message t) (sym (eqb-true named id parts.0)) ∙ o.1 in
     let unmoved : o.0.moved ≡ false = not-true o.0.moved (and_parts (not o.0.moved) (is_finished o.0) o.2).0 in
     let none : slot_of o.0 slot ≡ None = ap (slot_of o.0) (eqb-true slot 0 parts.1) ∙ slot_of-zero o.0 unmoved in
-    let no : final_course course ≡ false = ap final_course (course_at (find_message t id) o.0 slot course found k) ∙ rw none refl in
+    let no : final_slot_fate slot_fate ≡ false = ap final_slot_fate (slot_fate_at (find_message t id) o.0 slot slot_fate found k) ∙ rw none refl in
     absurd (true≢false (sym f ∙ no))
-zero_unnamed t named id slot course false e k p f = e
+zero_unnamed t named id slot slot_fate false e k p f = e
 
 put_unnamed : (row : MsgRow) (id slot : ℕ) (ns : List ℕ) (b : Bool) → (row.id == id) ≡ b → find (λ k. k == id) (row.id ∷ ns) ≡ None → is_made_of id slot row ≡ false
 put_unnamed row id slot ns true e h = absurd (none-some row.id (sym h ∙ find-yes (λ k. k == id) row.id ns e))
 put_unnamed row id slot ns false e h = and_left (row.id == id) (has_slot row slot) e
 
-pub unnamed : (t : Tables) (c : Change) (cs : List Change) (id slot : ℕ) (course : Option Course) → is_proper t c ≡ true → Holds id slot t course (c ∷ cs) → final_course course ≡ true → names id slot c ≡ false
-unnamed t (changes.Enqueued row) cs id slot course p h f = put_unnamed row id slot (ids_put_in cs) (row.id == id) refl (h.course_is_new (final_is_some course f))
-unnamed t (changes.Retried named a retries until at) cs id slot course p h f = slot_unnamed t named a id slot course ((named == id) && (a == slot)) refl h.agrees p f
-unnamed t (changes.Ready named a at) cs id slot course p h f = slot_unnamed t named a id slot course ((named == id) && (a == slot)) refl h.agrees p f
-unnamed t (changes.Done named a at) cs id slot course p h f = slot_unnamed t named a id slot course ((named == id) && (a == slot)) refl h.agrees p f
-unnamed t (changes.Expired named a at) cs id slot course p h f = slot_unnamed t named a id slot course ((named == id) && (a == slot)) refl h.agrees p f
-unnamed t (changes.Dropped named a at) cs id slot course p h f = slot_unnamed t named a id slot course ((named == id) && (a == slot)) refl h.agrees p f
-unnamed t (changes.Moved named queue at) cs id slot course p h f = zero_unnamed t named id slot course ((named == id) && (slot == 0)) refl h.agrees (and_parts (option_map_or may_move (find_message t named) false) (is_some (find_queue t queue)) p).0 f
-unnamed t _ cs id slot course p h f = refl
+pub unnamed : (t : Tables) (c : Change) (cs : List Change) (id slot : ℕ) (slot_fate : Option SlotFate) → is_proper t c ≡ true → Holds id slot t slot_fate (c ∷ cs) → final_slot_fate slot_fate ≡ true → names id slot c ≡ false
+unnamed t (changes.Enqueued row) cs id slot slot_fate p h f = put_unnamed row id slot (ids_put_in cs) (row.id == id) refl (h.slot_fate_is_new (final_is_some slot_fate f))
+unnamed t (changes.Retried named a retries until at) cs id slot slot_fate p h f = slot_unnamed t named a id slot slot_fate ((named == id) && (a == slot)) refl h.agrees p f
+unnamed t (changes.Ready named a at) cs id slot slot_fate p h f = slot_unnamed t named a id slot slot_fate ((named == id) && (a == slot)) refl h.agrees p f
+unnamed t (changes.Done named a at) cs id slot slot_fate p h f = slot_unnamed t named a id slot slot_fate ((named == id) && (a == slot)) refl h.agrees p f
+unnamed t (changes.Expired named a at) cs id slot slot_fate p h f = slot_unnamed t named a id slot slot_fate ((named == id) && (a == slot)) refl h.agrees p f
+unnamed t (changes.Dropped named a at) cs id slot slot_fate p h f = slot_unnamed t named a id slot slot_fate ((named == id) && (a == slot)) refl h.agrees p f
+unnamed t (changes.Moved named queue at) cs id slot slot_fate p h f = zero_unnamed t named id slot slot_fate ((named == id) && (slot == 0)) refl h.agrees (and_parts (option_map_or may_move (find_message t named) false) (is_some (find_queue t queue)) p).0 f
+unnamed t _ cs id slot slot_fate p h f = refl
 
 -- ---- what is final stays so
 
-said_same : (b : Bool) (fate : Fate) (course : Option Course) → b ≡ false → said b fate course ≡ course
-said_same b fate course e = rw e refl
+said_same : (b : Bool) (fate : Fate) (slot_fate : Option SlotFate) → b ≡ false → said b fate slot_fate ≡ slot_fate
+said_same b fate slot_fate e = rw e refl
 
-in_queue_final : (queue : List ℕ) (course : Option Course) → final_course (option_map (in_queue queue) course) ≡ final_course course
+in_queue_final : (queue : List ℕ) (slot_fate : Option SlotFate) → final_slot_fate (option_map (in_queue queue) slot_fate) ≡ final_slot_fate slot_fate
 in_queue_final queue None = refl
 in_queue_final queue (Some c) = refl
 
-moved_final : (named id slot : ℕ) (queue : List ℕ) (course : Option Course) (b c : Bool) → (named == id) ≡ b → (slot == 0) ≡ c → ((named == id) && (slot == 0)) ≡ false → final_course course ≡ true
-    → final_course (if b then (if c then Some (record { queue = queue; fate = ready }) else option_map (in_queue queue) course) else course) ≡ true
-moved_final named id slot queue course false c e g h f = f
-moved_final named id slot queue course true true e g h f = absurd (false≢true (sym h ∙ and_from (named == id) (slot == 0) e g))
-moved_final named id slot queue course true false e g h f = in_queue_final queue course ∙ f
+moved_final : (named id slot : ℕ) (queue : List ℕ) (slot_fate : Option SlotFate) (b c : Bool) → (named == id) ≡ b → (slot == 0) ≡ c → ((named == id) && (slot == 0)) ≡ false → final_slot_fate slot_fate ≡ true
+    → final_slot_fate (if b then (if c then Some (record { queue = queue; fate = ready }) else option_map (in_queue queue) slot_fate) else slot_fate) ≡ true
+moved_final named id slot queue slot_fate false c e g h f = f
+moved_final named id slot queue slot_fate true true e g h f = absurd (false≢true (sym h ∙ and_from (named == id) (slot == 0) e g))
+moved_final named id slot queue slot_fate true false e g h f = in_queue_final queue slot_fate ∙ f
 
-put_final : (row : MsgRow) (id slot : ℕ) (ns : List ℕ) (course : Option Course) (b : Bool) → (row.id == id) ≡ b → find (λ k. k == id) (row.id ∷ ns) ≡ None → (if b then course_of slot row else course) ≡ course
-put_final row id slot ns course true e h = absurd (none-some row.id (sym h ∙ find-yes (λ k. k == id) row.id ns e))
-put_final row id slot ns course false e h = refl
+put_final : (row : MsgRow) (id slot : ℕ) (ns : List ℕ) (slot_fate : Option SlotFate) (b : Bool) → (row.id == id) ≡ b → find (λ k. k == id) (row.id ∷ ns) ≡ None → (if b then slot_fate_of slot row else slot_fate) ≡ slot_fate
+put_final row id slot ns slot_fate true e h = absurd (none-some row.id (sym h ∙ find-yes (λ k. k == id) row.id ns e))
+put_final row id slot ns slot_fate false e h = refl
 
-pub stays_final : (t : Tables) (c : Change) (cs : List Change) (id slot : ℕ) (course : Option Course) → is_proper t c ≡ true → Holds id slot t course (c ∷ cs) → final_course course ≡ true → final_course (course_after id slot course c) ≡ true
-stays_final t (changes.Enqueued row) cs id slot course p h f = ap final_course (put_final row id slot (ids_put_in cs) course (row.id == id) refl (h.course_is_new (final_is_some course f))) ∙ f
-stays_final t (changes.DropQueue name) cs id slot course p h f = without_final name course f
-stays_final t (changes.Retried named a retries until at) cs id slot course p h f =
-    ap final_course (said_same ((named == id) && (a == slot)) (retried_fate until) course (unnamed t (changes.Retried named a retries until at) cs id slot course p h f)) ∙ f
-stays_final t (changes.Ready named a at) cs id slot course p h f = ap final_course (said_same ((named == id) && (a == slot)) ready course (unnamed t (changes.Ready named a at) cs id slot course p h f)) ∙ f
-stays_final t (changes.Done named a at) cs id slot course p h f = ap final_course (said_same ((named == id) && (a == slot)) processed course (unnamed t (changes.Done named a at) cs id slot course p h f)) ∙ f
-stays_final t (changes.Expired named a at) cs id slot course p h f = ap final_course (said_same ((named == id) && (a == slot)) fates.expired course (unnamed t (changes.Expired named a at) cs id slot course p h f)) ∙ f
-stays_final t (changes.Dropped named a at) cs id slot course p h f = ap final_course (said_same ((named == id) && (a == slot)) fates.dropped course (unnamed t (changes.Dropped named a at) cs id slot course p h f)) ∙ f
-stays_final t (changes.Moved named queue at) cs id slot course p h f = moved_final named id slot queue course (named == id) (slot == 0) refl refl (unnamed t (changes.Moved named queue at) cs id slot course p h f) f
-stays_final t _ cs id slot course p h f = f
+pub stays_final : (t : Tables) (c : Change) (cs : List Change) (id slot : ℕ) (slot_fate : Option SlotFate) → is_proper t c ≡ true → Holds id slot t slot_fate (c ∷ cs) → final_slot_fate slot_fate ≡ true → final_slot_fate (slot_fate_after id slot slot_fate c) ≡ true
+stays_final t (changes.Enqueued row) cs id slot slot_fate p h f = ap final_slot_fate (put_final row id slot (ids_put_in cs) slot_fate (row.id == id) refl (h.slot_fate_is_new (final_is_some slot_fate f))) ∙ f
+stays_final t (changes.DropQueue name) cs id slot slot_fate p h f = without_final name slot_fate f
+stays_final t (changes.Retried named a retries until at) cs id slot slot_fate p h f =
+    ap final_slot_fate (said_same ((named == id) && (a == slot)) (retried_fate until) slot_fate (unnamed t (changes.Retried named a retries until at) cs id slot slot_fate p h f)) ∙ f
+stays_final t (changes.Ready named a at) cs id slot slot_fate p h f = ap final_slot_fate (said_same ((named == id) && (a == slot)) ready slot_fate (unnamed t (changes.Ready named a at) cs id slot slot_fate p h f)) ∙ f
+stays_final t (changes.Done named a at) cs id slot slot_fate p h f = ap final_slot_fate (said_same ((named == id) && (a == slot)) processed slot_fate (unnamed t (changes.Done named a at) cs id slot slot_fate p h f)) ∙ f
+stays_final t (changes.Expired named a at) cs id slot slot_fate p h f = ap final_slot_fate (said_same ((named == id) && (a == slot)) fates.expired slot_fate (unnamed t (changes.Expired named a at) cs id slot slot_fate p h f)) ∙ f
+stays_final t (changes.Dropped named a at) cs id slot slot_fate p h f = ap final_slot_fate (said_same ((named == id) && (a == slot)) fates.dropped slot_fate (unnamed t (changes.Dropped named a at) cs id slot slot_fate p h f)) ∙ f
+stays_final t (changes.Moved named queue at) cs id slot slot_fate p h f = moved_final named id slot queue slot_fate (named == id) (slot == 0) refl refl (unnamed t (changes.Moved named queue at) cs id slot slot_fate p h f) f
+stays_final t _ cs id slot slot_fate p h f = f
 
--- ---- a slot that was named has a course
+-- ---- a slot that was named has a slot fate
 
-in_queue_some : (queue : List ℕ) (course : Option Course) → is_some (option_map (in_queue queue) course) ≡ is_some course
+in_queue_some : (queue : List ℕ) (slot_fate : Option SlotFate) → is_some (option_map (in_queue queue) slot_fate) ≡ is_some slot_fate
 in_queue_some queue None = refl
 in_queue_some queue (Some c) = refl
 
-moved_some : (slot : ℕ) (queue : List ℕ) (course : Option Course) (b c : Bool) → is_some course ≡ true → is_some (if b then (if c then Some (record { queue = queue; fate = ready }) else option_map (in_queue queue) course) else course) ≡ true
-moved_some slot queue course false c h = h
-moved_some slot queue course true true h = refl
-moved_some slot queue course true false h = in_queue_some queue course ∙ h
+moved_some : (slot : ℕ) (queue : List ℕ) (slot_fate : Option SlotFate) (b c : Bool) → is_some slot_fate ≡ true → is_some (if b then (if c then Some (record { queue = queue; fate = ready }) else option_map (in_queue queue) slot_fate) else slot_fate) ≡ true
+moved_some slot queue slot_fate false c h = h
+moved_some slot queue slot_fate true true h = refl
+moved_some slot queue slot_fate true false h = in_queue_some queue slot_fate ∙ h
 
-pub stays_some : (t : Tables) (c : Change) (cs : List Change) (id slot : ℕ) (course : Option Course) → Holds id slot t course (c ∷ cs) → is_some course ≡ true → is_some (course_after id slot course c) ≡ true
-stays_some t (changes.Enqueued row) cs id slot course h s = ap is_some (put_final row id slot (ids_put_in cs) course (row.id == id) refl (h.course_is_new s)) ∙ s
-stays_some t (changes.DropQueue name) cs id slot course h s = without_some name course ∙ s
-stays_some t (changes.Retried named a retries until at) cs id slot course h s = said_some ((named == id) && (a == slot)) (retried_fate until) course ∙ s
-stays_some t (changes.Ready named a at) cs id slot course h s = said_some ((named == id) && (a == slot)) ready course ∙ s
-stays_some t (changes.Done named a at) cs id slot course h s = said_some ((named == id) && (a == slot)) processed course ∙ s
-stays_some t (changes.Expired named a at) cs id slot course h s = said_some ((named == id) && (a == slot)) fates.expired course ∙ s
-stays_some t (changes.Dropped named a at) cs id slot course h s = said_some ((named == id) && (a == slot)) fates.dropped course ∙ s
-stays_some t (changes.Moved named queue at) cs id slot course h s = moved_some slot queue course (named == id) (slot == 0) s
-stays_some t _ cs id slot course h s = s
+pub stays_some : (t : Tables) (c : Change) (cs : List Change) (id slot : ℕ) (slot_fate : Option SlotFate) → Holds id slot t slot_fate (c ∷ cs) → is_some slot_fate ≡ true → is_some (slot_fate_after id slot slot_fate c) ≡ true
+stays_some t (changes.Enqueued row) cs id slot slot_fate h s = ap is_some (put_final row id slot (ids_put_in cs) slot_fate (row.id == id) refl (h.slot_fate_is_new s)) ∙ s
+stays_some t (changes.DropQueue name) cs id slot slot_fate h s = without_some name slot_fate ∙ s
+stays_some t (changes.Retried named a retries until at) cs id slot slot_fate h s = said_some ((named == id) && (a == slot)) (retried_fate until) slot_fate ∙ s
+stays_some t (changes.Ready named a at) cs id slot slot_fate h s = said_some ((named == id) && (a == slot)) ready slot_fate ∙ s
+stays_some t (changes.Done named a at) cs id slot slot_fate h s = said_some ((named == id) && (a == slot)) processed slot_fate ∙ s
+stays_some t (changes.Expired named a at) cs id slot slot_fate h s = said_some ((named == id) && (a == slot)) fates.expired slot_fate ∙ s
+stays_some t (changes.Dropped named a at) cs id slot slot_fate h s = said_some ((named == id) && (a == slot)) fates.dropped slot_fate ∙ s
+stays_some t (changes.Moved named queue at) cs id slot slot_fate h s = moved_some slot queue slot_fate (named == id) (slot == 0) s
+stays_some t _ cs id slot slot_fate h s = s
 
-slot_named : (t : Tables) (named a id slot : ℕ) (fate : Fate) (course : Option Course) → AgreesSo (find_message t id) slot course → is_open_at t named a ≡ true → ((named == id) && (a == slot)) ≡ true
-    → is_some (said ((named == id) && (a == slot)) fate course) ≡ true
-slot_named t named a id slot fate course k p e = said_some ((named == id) && (a == slot)) fate course ∙ open_some t id slot course k (pair_is named a id slot t e p)
+slot_named : (t : Tables) (named a id slot : ℕ) (fate : Fate) (slot_fate : Option SlotFate) → AgreesSo (find_message t id) slot slot_fate → is_open_at t named a ≡ true → ((named == id) && (a == slot)) ≡ true
+    → is_some (said ((named == id) && (a == slot)) fate slot_fate) ≡ true
+slot_named t named a id slot fate slot_fate k p e = said_some ((named == id) && (a == slot)) fate slot_fate ∙ open_some t id slot slot_fate k (pair_is named a id slot t e p)
 
-zero_named : (slot : ℕ) (queue : List ℕ) (course : Option Course) (b c : Bool) → (b && c) ≡ true → is_some (if b then (if c then Some (record { queue = queue; fate = ready }) else option_map (in_queue queue) course) else course) ≡ true
-zero_named slot queue course true true e = refl
-zero_named slot queue course true false e = absurd (false≢true e)
-zero_named slot queue course false c e = absurd (false≢true e)
+zero_named : (slot : ℕ) (queue : List ℕ) (slot_fate : Option SlotFate) (b c : Bool) → (b && c) ≡ true → is_some (if b then (if c then Some (record { queue = queue; fate = ready }) else option_map (in_queue queue) slot_fate) else slot_fate) ≡ true
+zero_named slot queue slot_fate true true e = refl
+zero_named slot queue slot_fate true false e = absurd (false≢true e)
+zero_named slot queue slot_fate false c e = absurd (false≢true e)
 
 get_some : (xs : List SlotRow) (i : ℕ) → i < length xs → (s : SlotRow) × (slice_get xs i ≡ Some s)
 get_some [] i h = absurd (let no : i < 0 = h in omega arith)
@@ -154,32 +154,32 @@ made_slot row slot false e u h =
     let s = get_some row.slots (slot - 1) (omega arith) in
     (s.0, slot_of-has row slot h ∙ rw e (s.1))
 
-put_named : (row : MsgRow) (id slot : ℕ) (course : Option Course) (b : Bool) → (row.id == id) ≡ b → (b && has_slot row slot) ≡ true → row.moved ≡ false → is_some (if b then course_of slot row else course) ≡ true
-put_named row id slot course true e h u = let s = made_slot row slot (slot == 0) refl u h in rw (s.1) refl
-put_named row id slot course false e h u = absurd (false≢true h)
+put_named : (row : MsgRow) (id slot : ℕ) (slot_fate : Option SlotFate) (b : Bool) → (row.id == id) ≡ b → (b && has_slot row slot) ≡ true → row.moved ≡ false → is_some (if b then slot_fate_of slot row else slot_fate) ≡ true
+put_named row id slot slot_fate true e h u = let s = made_slot row slot (slot == 0) refl u h in rw (s.1) refl
+put_named row id slot slot_fate false e h u = absurd (false≢true h)
 
-pub named_some : (t : Tables) (c : Change) (cs : List Change) (id slot : ℕ) (course : Option Course) → is_proper t c ≡ true → Holds id slot t course (c ∷ cs) → names id slot c ≡ true → is_some (course_after id slot course c) ≡ true
-named_some t (changes.Enqueued row) cs id slot course p h e = put_named row id slot course (row.id == id) refl e (not-true row.moved (and_parts (is_none (find_message t row.id)) (not row.moved) p).1)
-named_some t (changes.Retried named a retries until at) cs id slot course p h e = slot_named t named a id slot (retried_fate until) course h.agrees p e
-named_some t (changes.Ready named a at) cs id slot course p h e = slot_named t named a id slot ready course h.agrees p e
-named_some t (changes.Done named a at) cs id slot course p h e = slot_named t named a id slot processed course h.agrees p e
-named_some t (changes.Expired named a at) cs id slot course p h e = slot_named t named a id slot fates.expired course h.agrees p e
-named_some t (changes.Dropped named a at) cs id slot course p h e = slot_named t named a id slot fates.dropped course h.agrees p e
-named_some t (changes.Moved named queue at) cs id slot course p h e = zero_named slot queue course (named == id) (slot == 0) e
-named_some t _ cs id slot course p h e = absurd (false≢true e)
+pub named_some : (t : Tables) (c : Change) (cs : List Change) (id slot : ℕ) (slot_fate : Option SlotFate) → is_proper t c ≡ true → Holds id slot t slot_fate (c ∷ cs) → names id slot c ≡ true → is_some (slot_fate_after id slot slot_fate c) ≡ true
+named_some t (changes.Enqueued row) cs id slot slot_fate p h e = put_named row id slot slot_fate (row.id == id) refl e (not-true row.moved (and_parts (is_none (find_message t row.id)) (not row.moved) p).1)
+named_some t (changes.Retried named a retries until at) cs id slot slot_fate p h e = slot_named t named a id slot (retried_fate until) slot_fate h.agrees p e
+named_some t (changes.Ready named a at) cs id slot slot_fate p h e = slot_named t named a id slot ready slot_fate h.agrees p e
+named_some t (changes.Done named a at) cs id slot slot_fate p h e = slot_named t named a id slot processed slot_fate h.agrees p e
+named_some t (changes.Expired named a at) cs id slot slot_fate p h e = slot_named t named a id slot fates.expired slot_fate h.agrees p e
+named_some t (changes.Dropped named a at) cs id slot slot_fate p h e = slot_named t named a id slot fates.dropped slot_fate h.agrees p e
+named_some t (changes.Moved named queue at) cs id slot slot_fate p h e = zero_named slot queue slot_fate (named == id) (slot == 0) e
+named_some t _ cs id slot slot_fate p h e = absurd (false≢true e)
 
 -- ---- a slot that was removed has a final fate
 
-with_fate_final : (course : Option Course) → is_some course ≡ true → final_course (option_map (with_fate processed) course) ≡ true
+with_fate_final : (slot_fate : Option SlotFate) → is_some slot_fate ≡ true → final_slot_fate (option_map (with_fate processed) slot_fate) ≡ true
 with_fate_final None h = h
 with_fate_final (Some c) h = refl
 
-done_by : (t : Tables) (named a id slot : ℕ) (course : Option Course) → is_some course ≡ true → ((named == id) && (a == slot)) ≡ true → final_course (said ((named == id) && (a == slot)) processed course) ≡ true
-done_by t named a id slot course s e = rw e (with_fate_final course s)
+done_by : (t : Tables) (named a id slot : ℕ) (slot_fate : Option SlotFate) → is_some slot_fate ≡ true → ((named == id) && (a == slot)) ≡ true → final_slot_fate (said ((named == id) && (a == slot)) processed slot_fate) ≡ true
+done_by t named a id slot slot_fate s e = rw e (with_fate_final slot_fate s)
 
-pub done_is_final : (t : Tables) (c : Change) (cs : List Change) (id slot : ℕ) (course : Option Course) → is_proper t c ≡ true → Holds id slot t course (c ∷ cs) → is_done id slot c ≡ true → final_course (course_after id slot course c) ≡ true
-done_is_final t (changes.Done named a at) cs id slot course p h e = done_by t named a id slot course (open_some t id slot course h.agrees (pair_is named a id slot t e p)) e
-done_is_final t _ cs id slot course p h e = absurd (false≢true e)
+pub done_is_final : (t : Tables) (c : Change) (cs : List Change) (id slot : ℕ) (slot_fate : Option SlotFate) → is_proper t c ≡ true → Holds id slot t slot_fate (c ∷ cs) → is_done id slot c ≡ true → final_slot_fate (slot_fate_after id slot slot_fate c) ≡ true
+done_is_final t (changes.Done named a at) cs id slot slot_fate p h e = done_by t named a id slot slot_fate (open_some t id slot slot_fate h.agrees (pair_is named a id slot t e p)) e
+done_is_final t _ cs id slot slot_fate p h e = absurd (false≢true e)
 
 pub done_names : (id slot : ℕ) (c : Change) → is_done id slot c ≡ true → names id slot c ≡ true
 done_names id slot (changes.Done named a at) e = e
@@ -187,25 +187,25 @@ done_names id slot _ e = absurd (false≢true e)
 
 -- ---- over all changes
 
--- a course that is there stays
-pub some_to_end : (cs : List Change) (t : Tables) (id slot : ℕ) (course : Option Course) → are_proper t cs ≡ true → Holds id slot t course cs → is_some course ≡ true → is_some (fold (course_after id slot) course cs) ≡ true
-some_to_end [] t id slot course p h s = s
-some_to_end (c ∷ cs) t id slot course p h s =
+-- a slot fate that is there stays
+pub some_to_end : (cs : List Change) (t : Tables) (id slot : ℕ) (slot_fate : Option SlotFate) → are_proper t cs ≡ true → Holds id slot t slot_fate cs → is_some slot_fate ≡ true → is_some (fold (slot_fate_after id slot) slot_fate cs) ≡ true
+some_to_end [] t id slot slot_fate p h s = s
+some_to_end (c ∷ cs) t id slot slot_fate p h s =
     let parts = proper_parts t c cs p in
-    some_to_end cs (after_change t c) id slot (course_after id slot course c) parts.1 (holds_after t c cs id slot course parts.0 h) (stays_some t c cs id slot course h s)
+    some_to_end cs (after_change t c) id slot (slot_fate_after id slot slot_fate c) parts.1 (holds_after t c cs id slot slot_fate parts.0 h) (stays_some t c cs id slot slot_fate h s)
 
-named_by_one : (c : Change) (cs : List Change) (t : Tables) (id slot : ℕ) (course : Option Course) → is_proper t c ≡ true → are_proper (after_change t c) cs ≡ true → Holds id slot t course (c ∷ cs)
-    → (names id slot c ≡ true) ⊎ (list_any (names id slot) cs ≡ true) → (list_any (names id slot) cs ≡ true → is_some (fold (course_after id slot) (course_after id slot course c) cs) ≡ true)
-    → is_some (fold (course_after id slot) (course_after id slot course c) cs) ≡ true
-named_by_one c cs t id slot course p q h (inl e) ih = some_to_end cs (after_change t c) id slot (course_after id slot course c) q (holds_after t c cs id slot course p h) (named_some t c cs id slot course p h e)
-named_by_one c cs t id slot course p q h (inr e) ih = ih e
+named_by_one : (c : Change) (cs : List Change) (t : Tables) (id slot : ℕ) (slot_fate : Option SlotFate) → is_proper t c ≡ true → are_proper (after_change t c) cs ≡ true → Holds id slot t slot_fate (c ∷ cs)
+    → (names id slot c ≡ true) ⊎ (list_any (names id slot) cs ≡ true) → (list_any (names id slot) cs ≡ true → is_some (fold (slot_fate_after id slot) (slot_fate_after id slot slot_fate c) cs) ≡ true)
+    → is_some (fold (slot_fate_after id slot) (slot_fate_after id slot slot_fate c) cs) ≡ true
+named_by_one c cs t id slot slot_fate p q h (inl e) ih = some_to_end cs (after_change t c) id slot (slot_fate_after id slot slot_fate c) q (holds_after t c cs id slot slot_fate p h) (named_some t c cs id slot slot_fate p h e)
+named_by_one c cs t id slot slot_fate p q h (inr e) ih = ih e
 
-pub each_named : (cs : List Change) (t : Tables) (id slot : ℕ) (course : Option Course) → are_proper t cs ≡ true → Holds id slot t course cs → list_any (names id slot) cs ≡ true → is_some (fold (course_after id slot) course cs) ≡ true
-each_named [] t id slot course p h e = absurd (false≢true e)
-each_named (c ∷ cs) t id slot course p h e =
+pub each_named : (cs : List Change) (t : Tables) (id slot : ℕ) (slot_fate : Option SlotFate) → are_proper t cs ≡ true → Holds id slot t slot_fate cs → list_any (names id slot) cs ≡ true → is_some (fold (slot_fate_after id slot) slot_fate cs) ≡ true
+each_named [] t id slot slot_fate p h e = absurd (false≢true e)
+each_named (c ∷ cs) t id slot slot_fate p h e =
     let parts = proper_parts t c cs p in
-    named_by_one c cs t id slot course parts.0 parts.1 h (or_cases (names id slot c) (list_any (names id slot) cs) e)
-    (λ g. each_named cs (after_change t c) id slot (course_after id slot course c) parts.1 (holds_after t c cs id slot course parts.0 h) g)
+    named_by_one c cs t id slot slot_fate parts.0 parts.1 h (or_cases (names id slot c) (list_any (names id slot) cs) e)
+    (λ g. each_named cs (after_change t c) id slot (slot_fate_after id slot slot_fate c) parts.1 (holds_after t c cs id slot slot_fate parts.0 h) g)
 
 -- ---- how often it is removed
 
@@ -222,24 +222,24 @@ not_done : (id slot : ℕ) (c : Change) (b : Bool) → is_done id slot c ≡ b �
 not_done id slot c true e n = absurd (false≢true (sym n ∙ done_names id slot c e))
 not_done id slot c false e n = e
 
-pub none_done : (cs : List Change) (t : Tables) (id slot : ℕ) (course : Option Course) → are_proper t cs ≡ true → Holds id slot t course cs → final_course course ≡ true → count_by (is_done id slot) cs ≡ 0
-none_done [] t id slot course p h f = refl
-none_done (c ∷ cs) t id slot course p h f =
+pub none_done : (cs : List Change) (t : Tables) (id slot : ℕ) (slot_fate : Option SlotFate) → are_proper t cs ≡ true → Holds id slot t slot_fate cs → final_slot_fate slot_fate ≡ true → count_by (is_done id slot) cs ≡ 0
+none_done [] t id slot slot_fate p h f = refl
+none_done (c ∷ cs) t id slot slot_fate p h f =
     let parts = proper_parts t c cs p in
-    count-no (is_done id slot) c cs (not_done id slot c (is_done id slot c) refl (unnamed t c cs id slot course parts.0 h f))
-    ∙ none_done cs (after_change t c) id slot (course_after id slot course c) parts.1 (holds_after t c cs id slot course parts.0 h) (stays_final t c cs id slot course parts.0 h f)
+    count-no (is_done id slot) c cs (not_done id slot c (is_done id slot c) refl (unnamed t c cs id slot slot_fate parts.0 h f))
+    ∙ none_done cs (after_change t c) id slot (slot_fate_after id slot slot_fate c) parts.1 (holds_after t c cs id slot slot_fate parts.0 h) (stays_final t c cs id slot slot_fate parts.0 h f)
 
-once_by : (c : Change) (cs : List Change) (t : Tables) (id slot : ℕ) (course : Option Course) (b : Bool) → is_done id slot c ≡ b → is_proper t c ≡ true → are_proper (after_change t c) cs ≡ true → Holds id slot t course (c ∷ cs)
+once_by : (c : Change) (cs : List Change) (t : Tables) (id slot : ℕ) (slot_fate : Option SlotFate) (b : Bool) → is_done id slot c ≡ b → is_proper t c ≡ true → are_proper (after_change t c) cs ≡ true → Holds id slot t slot_fate (c ∷ cs)
     → count_by (is_done id slot) cs ≤ 1 → count_by (is_done id slot) (c ∷ cs) ≤ 1
-once_by c cs t id slot course true e p q h le =
+once_by c cs t id slot slot_fate true e p q h le =
     let n = count-yes (is_done id slot) c cs e in
-    let z = none_done cs (after_change t c) id slot (course_after id slot course c) q (holds_after t c cs id slot course p h) (done_is_final t c cs id slot course p h e) in
+    let z = none_done cs (after_change t c) id slot (slot_fate_after id slot slot_fate c) q (holds_after t c cs id slot slot_fate p h) (done_is_final t c cs id slot slot_fate p h e) in
     omega (arith, n, z)
-once_by c cs t id slot course false e p q h le = let n = count-no (is_done id slot) c cs e in omega (arith, n, le)
+once_by c cs t id slot slot_fate false e p q h le = let n = count-no (is_done id slot) c cs e in omega (arith, n, le)
 
-pub done_once : (cs : List Change) (t : Tables) (id slot : ℕ) (course : Option Course) → are_proper t cs ≡ true → Holds id slot t course cs → count_by (is_done id slot) cs ≤ 1
-done_once [] t id slot course p h = omega arith
-done_once (c ∷ cs) t id slot course p h =
+pub done_once : (cs : List Change) (t : Tables) (id slot : ℕ) (slot_fate : Option SlotFate) → are_proper t cs ≡ true → Holds id slot t slot_fate cs → count_by (is_done id slot) cs ≤ 1
+done_once [] t id slot slot_fate p h = omega arith
+done_once (c ∷ cs) t id slot slot_fate p h =
     let parts = proper_parts t c cs p in
-    once_by c cs t id slot course (is_done id slot c) refl parts.0 parts.1 h
-    (done_once cs (after_change t c) id slot (course_after id slot course c) parts.1 (holds_after t c cs id slot course parts.0 h))
+    once_by c cs t id slot slot_fate (is_done id slot c) refl parts.0 parts.1 h
+    (done_once cs (after_change t c) id slot (slot_fate_after id slot slot_fate c) parts.1 (holds_after t c cs id slot slot_fate parts.0 h))

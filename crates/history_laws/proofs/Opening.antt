@@ -1,11 +1,11 @@
--- How the courses begin, in an opening that is valid.
+-- How the slot fates begin, in an opening that is valid.
 use Rattle.std.proofs.Common.{◌≡◌, ◌≤◌, ◌<◌, ℕ, suc, List, [], ◌∷◌, Bool, true, false, refl, sym, ap, ◌∙◌, arith, Option, Some, None, ◌==◌}
 use Rattle.std.specs.Prelude.{find, option_and_then, is_some, is_none, AllPairs, All, get_or}
 use Rattle.std.proofs.lemmas.Bool.{eqb-true, eqb-false, ne_eqb, false≢true}
 use Rattle.std.proofs.lemmas.List.Elements.{All-head, All-tail}
 use Rattle.queue_rows.specs.Rows.{find_message}
 use Rattle.queue_rows.specs.Valid.{is_valid}
-use Rattle.history_laws.specs.Fates.{course_of, course_in}
+use Rattle.history_laws.specs.Fates.{slot_fate_of, slot_fate_in}
 use Rattle.history_laws.specs.Proper.{ids_put_in, AreProper}
 use Rattle.queue_rows.specs.declared.tables.Tables.{Tables}
 use Rattle.queue_rows.specs.declared.rows.MsgRow.{MsgRow}
@@ -13,7 +13,7 @@ use Rattle.queue_rows.specs.declared.change.Change.{Change}
 use Rattle.row_laws.proofs.Finding.{is_single, single-yes, single-no, find-no, some_is}
 use Rattle.row_laws.proofs.Distinctly.{single_if_distinct}
 use Rattle.valid_laws.proofs.Parts.{valid_distinct, valid_id}
-use Rattle.history_laws.proofs.Courses.{AgreesSo}
+use Rattle.history_laws.proofs.SlotFates.{AgreesSo}
 use Rattle.history_laws.proofs.Holding.{Holds, IsNew}
 
 -- ---- ids that are put in
@@ -43,22 +43,22 @@ none_below id next xs lt h = none_if_apart id xs (λ k d l. let le = h k d l in 
 
 -- ---- the beginning
 
-course_in_is : (t : Tables) (id slot : ℕ) (o : Option MsgRow) → AgreesSo o slot (option_and_then (course_of slot) o)
-course_in_is t id slot None = λ some. absurd (false≢true some)
-course_in_is t id slot (Some m) = refl
+slot_fate_in_is : (t : Tables) (id slot : ℕ) (o : Option MsgRow) → AgreesSo o slot (option_and_then (slot_fate_of slot) o)
+slot_fate_in_is t id slot None = λ some. absurd (false≢true some)
+slot_fate_in_is t id slot (Some m) = refl
 
-some_course : (slot : ℕ) (o : Option MsgRow) → is_some (option_and_then (course_of slot) o) ≡ true → is_some o ≡ true
-some_course slot None h = h
-some_course slot (Some m) h = refl
+some_slot_fate : (slot : ℕ) (o : Option MsgRow) → is_some (option_and_then (slot_fate_of slot) o) ≡ true → is_some o ≡ true
+some_slot_fate slot None h = h
+some_slot_fate slot (Some m) h = refl
 
 row_new : (opening : Tables) (cs : List Change) (id : ℕ) → is_valid opening ≡ true → AreProper opening cs → is_some (find_message opening id) ≡ true → IsNew id cs
 row_new opening cs id v p s = let m = some_is (find_message opening id) s in none_below id opening.next (ids_put_in cs) (valid_id opening id m.0 v m.1) p.new.later
 
-pub holds_at_first : (opening : Tables) (cs : List Change) (id slot : ℕ) → is_valid opening ≡ true → AreProper opening cs → Holds id slot opening (course_in opening id slot) cs
+pub holds_at_first : (opening : Tables) (cs : List Change) (id slot : ℕ) → is_valid opening ≡ true → AreProper opening cs → Holds id slot opening (slot_fate_in opening id slot) cs
 holds_at_first opening cs id slot v p = record {
   single = single_if_distinct opening id (valid_distinct opening v);
-  agrees = course_in_is opening id slot (find_message opening id);
+  agrees = slot_fate_in_is opening id slot (find_message opening id);
   once = single_if_apart id (ids_put_in cs) p.new.distinct;
   row_is_new = row_new opening cs id v p;
-  course_is_new = λ s. row_new opening cs id v p (some_course slot (find_message opening id) s);
+  slot_fate_is_new = λ s. row_new opening cs id v p (some_slot_fate slot (find_message opening id) s);
 }

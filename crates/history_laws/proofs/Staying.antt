@@ -22,7 +22,7 @@ use Rattle.row_laws.proofs.Messages.{IsSingle, id_found, finds_left, finds_put_i
 use Rattle.row_laws.proofs.Slots.{slot_of-with_same, slot_of-with_other, slot_of-moved_zero, slot_of-moved_other}
 use Rattle.valid_laws.specs.Openness.{is_finished, may_move}
 use Rattle.valid_laws.specs.Touching.{puts_in, is_proper, are_proper}
-use Rattle.history_laws.proofs.Courses.{left_without}
+use Rattle.history_laws.proofs.SlotFates.{left_without}
 use Rattle.history_laws.proofs.Agreeing.{finds_without_table}
 use Rattle.history_laws.proofs.Holding.{proper_parts}
 use Rattle.row_laws.proofs.Distinctly.{single_if_distinct}

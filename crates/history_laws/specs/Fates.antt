@@ -40,33 +40,33 @@ is_final dropped = true
 is_final deleted = true
 
 -- the fate of a slot, and the queue in which its message stands
-pub record Course : Type 0 where
+pub record SlotFate : Type 0 where
   pub queue : List ℕ
   pub fate : Fate
 
 -- ---- where it stands in tables
 
--- the course of a slot that the message has
-abbrev pub course_of : ℕ → MsgRow → Option Course
-course_of slot m = option_map (λ s. record { queue = m.queue; fate = fate_in s.state }) (slot_of m slot)
+-- the fate of a slot that the message has
+abbrev pub slot_fate_of : ℕ → MsgRow → Option SlotFate
+slot_fate_of slot m = option_map (λ s. record { queue = m.queue; fate = fate_in s.state }) (slot_of m slot)
 
--- the course with which a slot of the tables begins
-abbrev pub course_in : Tables → ℕ → ℕ → Option Course
-course_in t id slot = option_and_then (course_of slot) (find_message t id)
+-- the fate with which a slot of the tables begins
+abbrev pub slot_fate_in : Tables → ℕ → ℕ → Option SlotFate
+slot_fate_in t id slot = option_and_then (slot_fate_of slot) (find_message t id)
 
 -- ---- what a change says of a slot
 
 -- it has this fate from now on
-abbrev pub with_fate : Fate → Course → Course
+abbrev pub with_fate : Fate → SlotFate → SlotFate
 with_fate fate c = record c { fate = fate }
 
 -- its message stands in that queue from now on
-abbrev pub in_queue : List ℕ → Course → Course
+abbrev pub in_queue : List ℕ → SlotFate → SlotFate
 in_queue queue c = record c { queue = queue }
 
 -- what is said of a slot, where it is this one
-abbrev pub said : Bool → Fate → Option Course → Option Course
-said is_it fate course = if is_it then option_map (with_fate fate) course else course
+abbrev pub said : Bool → Fate → Option SlotFate → Option SlotFate
+said is_it fate slot_fate = if is_it then option_map (with_fate fate) slot_fate else slot_fate
 
 -- after a rollback it waits, or is ready at once
 abbrev pub retried_fate : Option ℕ → Fate
@@ -74,34 +74,34 @@ retried_fate None = ready
 retried_fate (Some until) = waiting
 
 -- with its message each slot moves to that queue, and slot 0 begins
-abbrev pub moved_course : List ℕ → ℕ → Option Course → Option Course
-moved_course queue slot course = if slot == 0 then Some (record { queue = queue; fate = ready }) else option_map (in_queue queue) course
+abbrev pub moved_slot_fate : List ℕ → ℕ → Option SlotFate → Option SlotFate
+moved_slot_fate queue slot slot_fate = if slot == 0 then Some (record { queue = queue; fate = ready }) else option_map (in_queue queue) slot_fate
 
 -- with its queue what is not final goes
-abbrev pub without_queue : List ℕ → Course → Course
+abbrev pub without_queue : List ℕ → SlotFate → SlotFate
 without_queue queue c = if bytes_eq c.queue queue then (if is_final c.fate then c else with_fate deleted c) else c
 
--- the course of a slot after a change
-abbrev pub course_after : ℕ → ℕ → Option Course → Change → Option Course
-course_after id slot course (changes.Enqueued row) = if row.id == id then course_of slot row else course
-course_after id slot course (changes.Retried named at_slot retries until at) = said ((named == id) && (at_slot == slot)) (retried_fate until) course
-course_after id slot course (changes.Ready named at_slot at) = said ((named == id) && (at_slot == slot)) ready course
-course_after id slot course (changes.Done named at_slot at) = said ((named == id) && (at_slot == slot)) processed course
-course_after id slot course (changes.Expired named at_slot at) = said ((named == id) && (at_slot == slot)) expired course
-course_after id slot course (changes.Dropped named at_slot at) = said ((named == id) && (at_slot == slot)) dropped course
-course_after id slot course (changes.Moved named queue at) = if named == id then moved_course queue slot course else course
-course_after id slot course (changes.DropQueue queue) = option_map (without_queue queue) course
-course_after id slot course _ = course
+-- the fate of a slot, and its queue, after a change
+abbrev pub slot_fate_after : ℕ → ℕ → Option SlotFate → Change → Option SlotFate
+slot_fate_after id slot slot_fate (changes.Enqueued row) = if row.id == id then slot_fate_of slot row else slot_fate
+slot_fate_after id slot slot_fate (changes.Retried named at_slot retries until at) = said ((named == id) && (at_slot == slot)) (retried_fate until) slot_fate
+slot_fate_after id slot slot_fate (changes.Ready named at_slot at) = said ((named == id) && (at_slot == slot)) ready slot_fate
+slot_fate_after id slot slot_fate (changes.Done named at_slot at) = said ((named == id) && (at_slot == slot)) processed slot_fate
+slot_fate_after id slot slot_fate (changes.Expired named at_slot at) = said ((named == id) && (at_slot == slot)) expired slot_fate
+slot_fate_after id slot slot_fate (changes.Dropped named at_slot at) = said ((named == id) && (at_slot == slot)) dropped slot_fate
+slot_fate_after id slot slot_fate (changes.Moved named queue at) = if named == id then moved_slot_fate queue slot slot_fate else slot_fate
+slot_fate_after id slot slot_fate (changes.DropQueue queue) = option_map (without_queue queue) slot_fate
+slot_fate_after id slot slot_fate _ = slot_fate
 
 -- ---- what commits say
 
--- the course of a slot after these changes of a database with this opening
-abbrev pub course_by : Tables → List Change → ℕ → ℕ → Option Course
-course_by opening cs id slot = fold (course_after id slot) (course_in opening id slot) cs
+-- the fate of a slot, and its queue, after these changes of a database with this opening
+abbrev pub slot_fate_by : Tables → List Change → ℕ → ℕ → Option SlotFate
+slot_fate_by opening cs id slot = fold (slot_fate_after id slot) (slot_fate_in opening id slot) cs
 
 -- the fate of a slot after these changes of a database with this opening
 abbrev pub fate_by : Tables → List Change → ℕ → ℕ → Option Fate
-fate_by opening cs id slot = option_map (λ c. c.fate) (course_by opening cs id slot)
+fate_by opening cs id slot = option_map (λ c. c.fate) (slot_fate_by opening cs id slot)
 
 -- the fate of a slot after these commits
 unfoldable pub fate : Tables → List Commit → ℕ → ℕ → Option Fate

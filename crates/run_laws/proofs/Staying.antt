@@ -28,7 +28,7 @@ use Rattle.valid_laws.specs.Openness.{is_open_slot, is_open_at, is_finished, may
 use Rattle.valid_laws.specs.Touching.{puts_in, is_proper, are_proper}
 use Rattle.valid_laws.proofs.Opened.{IsOpenIn, open_in, open_at, finished_closed}
 use Rattle.valid_laws.proofs.Parts.{valid_distinct}
-use Rattle.history_laws.proofs.Courses.{left_without}
+use Rattle.history_laws.proofs.SlotFates.{left_without}
 use Rattle.history_laws.proofs.Agreeing.{finds_without_table}
 use Rattle.history_laws.proofs.Holding.{proper_parts}
 use Rattle.history_laws.proofs.Commits.{empty_if}

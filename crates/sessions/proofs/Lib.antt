@@ -1,2 +1,2 @@
-pub mod Course
+pub mod CommitChanges
 pub mod Each

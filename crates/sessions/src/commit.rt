@@ -41,7 +41,7 @@ fn copies_of(alloc: Global, queues: &NamedList<QueueRow>) -> Result<List<QueueRo
 }
 
 // The queues that the walk over the pending changes begins with: removals look at none, so they copy none.
-#[tactic(auto, using(crate::proofs::Course::removals_alone))]
+#[tactic(auto, using(crate::proofs::CommitChanges::removals_alone))]
 fn queues_for(tables: &Tables, pending: &List<Pending>) -> Result<List<QueueRow>, AllocError>
     requires lowest { All (IsLowest (2 ^ 62)) tables.now.queues }
     ensures same { IfOk result (AreEnoughFor tables.now pending.now) }
@@ -111,7 +111,7 @@ fn alone(alloc: Global, change: Change) -> Result<List<Change>, AllocError>
 }
 
 /// What one addition or removal becomes when it is committed at that moment, as a transaction of its own. It copies no queue.
-#[tactic(auto, using(crate::proofs::Course::lowest_within))]
+#[tactic(auto, using(crate::proofs::CommitChanges::lowest_within))]
 pub fn changes_alone<T: MessageTables>(
     alloc: Global,
     tables: &T,

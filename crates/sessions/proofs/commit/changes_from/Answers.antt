@@ -1,7 +1,7 @@
 use Rattle.std.proofs.Common.{refl}
 use Rattle.std.proofs.lemmas.List.Elements.{All-rest}
 use Rattle.sessions.specs.Numbers.{IsPendable}
-use Rattle.sessions.proofs.Course.{step_changes, step_count, step_lowest}
+use Rattle.sessions.proofs.CommitChanges.{step_changes, step_count, step_lowest}
 use Rattle.sessions.proofs.commit.changes_from.Goals as goal
 
 pub loop-pending-preserved : goal.loop-pending-preserved
