@@ -11,6 +11,9 @@ use row_tree::{Edit, Iter, Tree};
 use std::alloc::{AllocError, Global};
 use std::marker::Model;
 
+/// How many items are gone over one by one rather than looked up, which costs less where they are few.
+const FEW: usize = 8;
+
 /// A list whose items have names, which contracts see as the list of its items. An item is found by its name, put last, changed
 /// and taken out in about as many steps as the number of items has binary digits.
 pub struct NamedList<T: Named> {
@@ -103,10 +106,13 @@ impl<T: Named> NamedList<T> {
         }
     }
 
-    /// The first item that is sought, which goes over those of its name alone. It takes no memory.
+    /// The first item that is sought, which goes over those of its name alone where there are many. It takes no memory.
     pub fn find<S: Sought<T>>(&self, sought: &S) -> Option<&T>
         ensures { option_copied result ≡ find (S.is sought.now) self.now }
     {
+        if self.items.len() <= FEW {
+            return found_by_walk(&self.items, sought);
+        }
         first_among(self.of(sought.name()), sought)
     }
 
@@ -206,6 +212,13 @@ fn first_among<'a, T: Named, S: Sought<T>>(items: Of<'a, '_, T>, sought: &S) -> 
 {
     let mut items = items;
     items.find(|item| sought.is(item))
+}
+
+// The first item that is sought, found by going over all.
+fn found_by_walk<'a, T: Named, S: Sought<T>>(items: &'a Tree<T>, sought: &S) -> Option<&'a T>
+    ensures { option_copied result ≡ find (S.is sought.now) items.now }
+{
+    items.iter().find(|item| sought.is(item))
 }
 
 // Where the first of the items stands that is sought.
