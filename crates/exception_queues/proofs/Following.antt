@@ -75,7 +75,7 @@ all_keep : (q : ℕ) (m : Option MsgRow) (cs : List Change) → HasNumber q m �
 all_keep q m [] h = h
 all_keep q m (c ∷ cs) h = all_keep q (left_some m c) cs (some_keeps q m c h)
 
-found_is : (q : ℕ) (ms : List MsgRow) → HasNumber q (find (λ m. m.id == q) ms)
+pub found_is : (q : ℕ) (ms : List MsgRow) → HasNumber q (find (λ m. m.id == q) ms)
 found_is q [] = tt
 found_is q (m ∷ ms) = elim (cases_Bool (m.id == q)) [
   | inl here ↦ rw here (eqb-true m.id q here)

@@ -1,6 +1,7 @@
 //! What commits settle besides: which messages move to their exception queues, and which go.
 #![tactic(auto)]
 
+mod alone;
 mod left;
 mod names;
 mod outcomes;

@@ -2,7 +2,9 @@
 ghost use Rattle.std.specs.Prelude.{◌≡◌, ◌++◌, [], IfOk, OnOk, Some, None, option_copied};
 ghost use Rattle.queue_rows.specs.Settling.{is_exception_of, named_or_default, exception_queue_of, retention_of, is_lost, is_handled, is_kept_by_none, settling_of, settled};
 ghost use Rattle.exception_queues.specs.Outcomes.{outcome_of, settled_by, settling_by};
+ghost use Rattle.exception_queues.specs.Sole.{purge_of};
 
+use crate::alone::taken_whole;
 use crate::outcomes::{Outcome, Outcomes, outcomes_of};
 use crate::slots::{all_gone, any_expired, any_open, any_processed, is_slot_processed};
 use payload_records::{Copied, List, Name};
@@ -137,9 +139,22 @@ fn settle_all(
     Ok(changes)
 }
 
-/// What a list of changes is with what it settles: for each message that it names, that it moves to its exception queue
-/// or goes. A message is looked for in the tables once.
-pub fn settle<T: MessageTables>(
+// The changes take the only slot of the message, and do nothing else: none has lost it, and its queue alone may keep it.
+fn settle_taken(
+    mut changes: List<Change>,
+    tables: &Tables,
+    message: &MsgRow,
+) -> Result<List<Change>, AllocError>
+    ensures { IfOk result (λ all. all ≡ changes ++ purge_of tables.now message.now) }
+{
+    if retention_of(tables, message) == 0 {
+        changes.push(Change::Purged { id: message.id })?;
+    }
+    Ok(changes)
+}
+
+// Any changes: each message that they name is copied once, and followed.
+fn settle_each<T: MessageTables>(
     tables: &T,
     changes: List<Change>,
 ) -> Result<List<Change>, AllocError>
@@ -147,4 +162,19 @@ pub fn settle<T: MessageTables>(
 {
     let outcomes = outcomes_of(tables, &changes)?;
     settle_all(changes, tables.tables(), &outcomes)
+}
+
+/// What a list of changes is with what it settles: for each message that it names, that it moves to its exception queue
+/// or goes. Where the changes take the only slot of one message, and do nothing else, it is not copied.
+#[tactic(auto, using(crate::proofs::Sole::taken_settles))]
+pub fn settle<T: MessageTables>(
+    tables: &T,
+    changes: List<Change>,
+) -> Result<List<Change>, AllocError>
+    ensures { IfOk result (λ all. all ≡ settled (T.tables tables.now) changes) }
+{
+    match taken_whole(tables, &changes) {
+        Some(message) => settle_taken(changes, tables.tables(), message),
+        None => settle_each(tables, changes),
+    }
 }

@@ -3,7 +3,7 @@ use Rattle.std.specs.List.{flat_map}
 use Rattle.queue_rows.specs.declared.change.Change.{Change}
 use Rattle.exception_queues.specs.Outcomes.{outcome_of, settling_by}
 use Rattle.exception_queues.proofs.Following.{settles}
-use Rattle.exception_queues.proofs.settling.settle.Goals as goal
+use Rattle.exception_queues.proofs.settling.settle_each.Goals as goal
 
 pub returns : goal.returns
 returns g c =
