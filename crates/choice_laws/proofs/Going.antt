@@ -90,7 +90,8 @@ goes_past place x y past less =
       | Greater ↦ λ e. let no : Greater ≡ Less = sym (ap (λ o. ordering_then o (nat_cmp x.stamp y.stamp)) e) ∙ less in cc no
     ] refl
 
-same_past : (place : List ℤ) (rows : List Row) → rows_past place rows ≡ filter (λ r. is_gt (place_cmp r.place place)) rows
+-- those past a place are those that come behind it in the order
+pub same_past : (place : List ℤ) (rows : List Row) → rows_past place rows ≡ filter (λ r. is_gt (place_cmp r.place place)) rows
 same_past place [] = refl
 same_past place (r ∷ rs) =
     ap (λ b. cond b (r ∷ rows_past place rs) (rows_past place rs)) (greater_is_less place_cmp_total place r.place)

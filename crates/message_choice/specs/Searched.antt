@@ -1,13 +1,12 @@
 -- What a search in the rows of a queue and consumer finds, and how many it looks at.
-use Rattle.std.specs.Prelude.{ℕ, List, Option, option_map}
+use Rattle.std.specs.Prelude.{ℕ, List, Option, map}
 use Rattle.queue_rows.specs.Dequeueing.{Look}
 use Rattle.queue_rows.specs.declared.rows.MsgRow.{MsgRow}
 use Rattle.sort_index.specs.declared.group.Ready.{Ready}
 use Rattle.sort_index.specs.declared.group.Group.{Group}
 use Rattle.choice_laws.specs.Choosing.{first_passing, looks}
-use Rattle.choice_laws.specs.Choosing as rows
+use Rattle.choice_laws.specs.Choosing as choosing
 use Rattle.choice_laws.specs.Entries.{Entry, Row, AreRising, messages_of, rows_for}
-use Rattle.choice_laws.specs.GoingLaws.{from_row}
 use Rattle.message_choice.specs.Asking.{AreSoundFor}
 use Rattle.ready_slots.specs.Indexed.{IndexesReady, stamped}
 use Rattle.message_choice.specs.Wanted.{passes}
@@ -23,14 +22,10 @@ pub record CanSearch (a : Asking) (entries : List Entry) (groups : List Group) :
 abbrev pub rows_in : Look → List Entry → List Row
 rows_in l entries = rows_for l.queue.name l.ask.consumer entries
 
--- the rows from one on, of those of the look
-abbrev pub rows_from : Look → List Entry → Option Ready → List Row
-rows_from l entries row = from_row (option_map stamped row) (rows_in l entries)
-
--- the message of the first of them that passes
-abbrev pub first_from : Look → Filter → List Entry → Option Ready → Option MsgRow
-first_from l f entries row = first_passing entries (passes l f) (rows_from l entries row)
+-- the message of the first of these rows of the index that passes
+abbrev pub first_in : Look → Filter → List Entry → List Ready → Option MsgRow
+first_in l f entries rows = first_passing entries (passes l f) (map stamped rows)
 
 -- how many of them are looked at
-abbrev pub looks_from : Look → Filter → List Entry → Option Ready → ℕ
-looks_from l f entries row = looks (rows.passes entries (passes l f)) (rows_from l entries row)
+abbrev pub looks_in : Look → Filter → List Entry → List Ready → ℕ
+looks_in l f entries rows = looks (choosing.passes entries (passes l f)) (map stamped rows)

@@ -1,17 +1,16 @@
 // Searches in the rows of a queue and consumer.
-ghost use Rattle.std.specs.Prelude.{◌≡◌, ◌+◌, IfSome, length, option_copied};
-ghost use Rattle.std.specs.Option.{option_to_list};
+ghost use Rattle.std.specs.Prelude.{◌≡◌, ◌+◌, IfSome};
 ghost use Rattle.row_tree.specs.Found.{kept_by};
 ghost use Rattle.choice_laws.specs.Entries.{message_at, messages_of};
 ghost use Rattle.message_choice.specs.Asking.{AreSoundFor, look_of};
-ghost use Rattle.message_choice.specs.Searched.{CanSearch, first_from, looks_from};
+ghost use Rattle.message_choice.specs.Searched.{CanSearch, first_in, looks_in};
 ghost use Rattle.message_choice.specs.Wanted.{HasSlotFor, message_of, passes};
 
 use crate::StampedMessages;
 use crate::asking::{Asking, Filter, Hit};
 use crate::search::{Search, hit_of};
 use place_keys::Place;
-use sort_index::{Ready, ReadyIndex, Steps};
+use sort_index::{ReadyIndex, RowsPast, Steps};
 use std::sync::ledger::Ledger;
 
 // The message with that stamp and the slot that may be given of it, where it passes.
@@ -30,31 +29,25 @@ fn hit_at<'a, M: StampedMessages>(
     hit_of(asking, filter, message)
 }
 
-// The first message that passes, of the rows from this one on.
-fn search_from<'a, M: StampedMessages, L: Ledger>(
+// The first message that passes, of those to which these rows lead.
+fn search_in<'a, M: StampedMessages, L: Ledger>(
     messages: &'a M,
-    ready: &ReadyIndex,
     asking: &Asking<'_>,
     filter: Filter,
-    first: Option<&Ready>,
+    rows: RowsPast<'_>,
     steps: &mut Steps<L>,
 ) -> Option<Hit<'a>>
-    requires { CanSearch asking.now (M.entries messages.now) ready.now.groups }
-    ensures message { let entries = M.entries messages.now in
-        message_of result ≡ first_from (look_of asking.now) filter entries (option_copied first.entry) }
+    requires { AreSoundFor asking.now (messages_of (M.entries messages.now)) }
+    ensures message { message_of result ≡ first_in (look_of asking.now) filter (M.entries messages.now) rows.entry }
     ensures slot { IfSome result (λ hit. HasSlotFor (look_of asking.now) hit.message.now hit.slot) }
     ensures steps { let entries = M.entries messages.now in
-        steps.new + length (option_to_list first.entry)
-        ≡ steps.old + looks_from (look_of asking.now) filter entries (option_copied first.entry) }
+        steps.new ≡ steps.old + looks_in (look_of asking.now) filter entries rows.entry }
 {
-    let pick = asking.pick;
-    let mut next = first;
-    while let Some(row) = next {
+    let mut rows = rows;
+    while let Some(row) = rows.next(steps) {
         if let Some(hit) = hit_at(messages, asking, filter, row.id) {
             return Some(hit);
         }
-        let after = Some((&row.place, row.id));
-        next = ready.next_row(&pick.queue.name, pick.consumer, after, steps);
     }
     None
 }
@@ -74,7 +67,7 @@ impl<M: StampedMessages> Search<M> for ReadyIndex {
         steps: &mut Steps<L>,
     ) -> Option<Hit<'a>> {
         let pick = asking.pick;
-        let first = self.first_row_past(&pick.queue.name, pick.consumer, after, steps);
-        search_from(messages, self, asking, filter, first, steps)
+        let rows = self.rows_past(&pick.queue.name, pick.consumer, after);
+        search_in(messages, asking, filter, rows, steps)
     }
 }

@@ -117,8 +117,8 @@ fn is_available_slot(asking: &Asking<'_>, message: &MsgRow, slot: u32) -> bool
     ensures { result ≡ is_available_slot (look_of asking.now) message.now (Some slot) }
 {
     message.is_slot_ready(u64::from(slot))
-        && !has_removed(asking, message, slot)
         && is_free(asking, message, slot)
+        && !has_removed(asking, message, slot)
 }
 
 // ---- criteria

@@ -1,5 +1,5 @@
 -- What edits make of the rows of a queue and a consumer.
-use Rattle.std.specs.Prelude.{◌≡◌, ◌≢◌, ℕ, ℤ, Bool, true, false, cond, not, map, List, [], ◌∷◌, Option, refl}
+use Rattle.std.specs.Prelude.{◌≡◌, ◌≢◌, ℕ, ℤ, Bool, true, false, cond, not, List, [], ◌∷◌, Option, refl}
 use Rattle.std.proofs.Common.{ap, ◌∙◌}
 use Rattle.std.proofs.lemmas.Cmp.{tied_itself}
 use Rattle.std.proofs.lemmas.List.Elements.{All-head, All-tail, All-weaker}
@@ -8,7 +8,6 @@ use Rattle.std.specs.Ordering.{is_eq, is_lt}
 use Rattle.std.specs.declared.cmp.Ordering.{Ordering}
 use Rattle.std.specs.declared.cmp.Ordering.TheVariants.{Less, Equal, Greater}
 use Rattle.row_tree.specs.Free.{none_at}
-use Rattle.row_tree.specs.Order.{put_in_order}
 use Rattle.sort_index.specs.Ready.{names_cmp, ready_cmp, row_cmp, key, is_of, rows_of, with_row, without_row, EditsRows, IsFree}
 use Rattle.sort_index.specs.ReadyLaws.{ready_cmp_total, group_cmp_total, names_exact, row_exact}
 use Rattle.sort_index.specs.declared.group.Ready.{Ready}

@@ -10,7 +10,7 @@ ghost use Rattle.sort_index.specs.Ready.{first_slot, first_slot_past, group_cmp,
 ghost use Rattle.sort_index.specs.Ready.{rows_of, slot_of, with_row, with_rows, without_first_at, without_group, without_row};
 
 use crate::bounds::{AtGroup, AtRow, PastPlace, PastRow};
-use crate::{Group, Ready, Steps};
+use crate::{Group, Ready, RowsPast, Steps};
 use payload_records::Name;
 use place_keys::{Place, compare};
 use row_tree::{Ordered, Spare, Stock};
@@ -169,6 +169,22 @@ impl ReadyIndex {
         let row = first_past(&group.rows, after)?;
         steps.tick();
         Some(row)
+    }
+
+    /// The rows past all at a place, where one is given. It takes no memory.
+    pub fn rows_past(
+        &self,
+        queue: &Name,
+        consumer: Option<&Name>,
+        after: Option<&Place>,
+    ) -> RowsPast<'_>
+        ensures rows { result ≡ filter (is_past (option_copied after.entry))
+            (rows_of queue.now (option_copied consumer.entry) self.now.groups) }
+    {
+        match self.groups.find_at(&AtGroup { queue, consumer }) {
+            Some(group) => RowsPast::of(&group.rows, after),
+            None => RowsPast::none(),
+        }
     }
 
     /// The first row past the one with an id at a place, where they are given, or None where there is none. It takes no memory.

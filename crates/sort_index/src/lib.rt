@@ -5,8 +5,10 @@
 mod bounds;
 mod group;
 mod index;
+mod rows_past;
 mod steps;
 
 pub use group::{Group, Ready};
 pub use index::ReadyIndex;
+pub use rows_past::RowsPast;
 pub use steps::Steps;
