@@ -109,7 +109,7 @@ pub(crate) fn is_added(affected: Affected<'_>, pending: &Pending) -> bool
     ensures { result ≡ is_added (affecting affected.entry) pending.now }
 {
     match pending {
-        Pending::Add(message) => has_any(affected, message),
+        Pending::Add(message) => has_any(affected, message.get()),
         Pending::Remove { .. } => false,
     }
 }

@@ -78,11 +78,11 @@ fn add_message<T: MessageTables>(
     match visibility {
         Visibility::OnCommit => {
             let mut effect = Effect::answered(alloc, reply);
-            effect.pend = Some(Pending::Add(message));
+            effect.pend = Some(Pending::Add(Boxed::new(alloc, message)?));
             Ok(effect)
         }
         Visibility::Immediate => {
-            let pending = Pending::Add(message);
+            let pending = Pending::Add(Boxed::new(alloc, message)?);
             let commit = changes_alone(alloc, store, &pending, moment)?;
             Ok(Effect::plain(Verdict::Answer(reply), commit))
         }

@@ -1,14 +1,14 @@
 // What a session keeps from statement to statement.
 use crate::MsgRow;
-use payload_records::{Copied, Name};
+use payload_records::{Boxed, Copied, Name};
 use place_keys::Place;
 use std::alloc::AllocError;
 
 /// What a session has done and not committed.
 #[derive(Drop)]
 pub enum Pending {
-    /// It adds the message.
-    Add(MsgRow),
+    /// It adds the message, which stands on the heap: what a statement does is moved from call to call.
+    Add(Boxed<MsgRow>),
     /// It removes the slot.
     Remove {
         /// The message.

@@ -151,7 +151,7 @@ pub fn change_of<Q: Queues>(
 {
     match pending {
         Pending::Add(message) => {
-            let row = completed(alloc, tables, queues, stamp, message)?;
+            let row = completed(alloc, tables, queues, stamp, message.get())?;
             Ok(Change::Enqueued(Boxed::new(alloc, row)?))
         }
         Pending::Remove { id, slot } => Ok(Change::Done {
