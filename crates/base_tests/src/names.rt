@@ -43,6 +43,16 @@ fn fill(alloc: Global, list: &mut NamedList<Item>) -> Result<(), NameFault> {
     put(alloc, list, "a", 3)
 }
 
+/// With these a list is too long for its items to be gone over one by one.
+const OTHERS: &[&str] = &["c", "d", "e", "f", "g", "h", "i"];
+
+fn fill_on(alloc: Global, list: &mut NamedList<Item>) -> Result<(), NameFault> {
+    for name in OTHERS {
+        put(alloc, list, name, 4)?;
+    }
+    Ok(())
+}
+
 fn is_first(list: &NamedList<Item>, name: &Name) -> bool {
     match list.find(name) {
         Some(item) => item.number == 2 && list.count_of(name) == 2,
@@ -68,5 +78,12 @@ fn is_found_in_copy(alloc: Global, list: &NamedList<Item>) -> bool {
 fn items_are_found_by_their_names(rt: HostRuntime) {
     let mut list = NamedList::new();
     let is_filled = fill(rt.alloc(), &mut list).is_ok();
+    assert!(rt; is_filled && is_found_in_copy(rt.alloc(), &list));
+}
+
+#[test]
+fn items_of_a_long_list_are_found_by_their_names(rt: HostRuntime) {
+    let mut list = NamedList::new();
+    let is_filled = fill(rt.alloc(), &mut list).is_ok() && fill_on(rt.alloc(), &mut list).is_ok();
     assert!(rt; is_filled && is_found_in_copy(rt.alloc(), &list));
 }
