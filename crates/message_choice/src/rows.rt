@@ -38,7 +38,8 @@ fn search_in<'a, M: StampedMessages, L: Ledger>(
     steps: &mut Steps<L>,
 ) -> Option<Hit<'a>>
     requires { AreSoundFor asking.now (messages_of (M.entries messages.now)) }
-    ensures message { message_of result ≡ first_in (look_of asking.now) filter (M.entries messages.now) rows.entry }
+    ensures message { let entries = M.entries messages.now in
+        message_of result ≡ first_in (look_of asking.now) filter entries rows.entry }
     ensures slot { IfSome result (λ hit. HasSlotFor (look_of asking.now) hit.message.now hit.slot) }
     ensures steps { let entries = M.entries messages.now in
         steps.new ≡ steps.old + looks_in (look_of asking.now) filter entries rows.entry }
