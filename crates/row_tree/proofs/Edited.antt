@@ -1,6 +1,6 @@
 -- A change of one row, in either part of a list.
 use Rattle.std.proofs.Common.{◌≡◌, ℕ, ◌+◌, ◌-◌, ◌<◌, suc, zero, List, [], ◌∷◌, ◌++◌, length, slice_get, slice_set, Option, Some, None, IsSome, refl, sym, ap, ◌∙◌, arith}
-use Rattle.std.specs.Option.{option_map_or, option_to_list}
+use Rattle.std.specs.Option.{option_map, option_map_or, option_to_list}
 use Rattle.row_tree.specs.Edits.{edit_at}
 
 edit_later : {T : Type 0} (x : T) (xs : List T) (i : ℕ) (f : T → T) → edit_at (x ∷ xs) (suc i) f ≡ x ∷ edit_at xs i f
@@ -34,8 +34,9 @@ edit_right xs l r (Some k) at f some is past =
     ap (λ n. edit_at (l ++ (k ∷ r)) n f) e ∙ edit_append_right l (k ∷ r) (suc i) f ∙ ap (λ ys. l ++ ys) (edit_later k r i f) in
     rw is (sym there)
 
-pub edit_root : {T : Type 0} (xs l r : List T) (row : Option T) (k : T) (at : ℕ) (f : T → T) → row ≡ Some k → xs ≡ l ++ (option_to_list row ++ r) → at ≡ length l
-    → l ++ (f k ∷ r) ≡ edit_at xs at f
-edit_root xs l r row k at f some is here =
+pub edit_root : {T : Type 0} (xs l r : List T) (row : Option T) (at : ℕ) (f : T → T) → IsSome row → xs ≡ l ++ (option_to_list row ++ r) → at ≡ length l
+    → l ++ (option_to_list (option_map f row) ++ r) ≡ edit_at xs at f
+edit_root xs l r None at f some is here = cc some
+edit_root xs l r (Some k) at f some is here =
     let e : at ≡ length l + 0 = omega arith in
-    rw (is, some) (sym (ap (λ n. edit_at (l ++ (k ∷ r)) n f) e ∙ edit_append_right l (k ∷ r) 0 f))
+    rw is (sym (ap (λ n. edit_at (l ++ (k ∷ r)) n f) e ∙ edit_append_right l (k ∷ r) 0 f))

@@ -3,7 +3,7 @@ ghost use Rattle.std.specs.Prelude.{◌≡◌, ◌↔◌, IsTrue, ◌+◌, ◌-�
 ghost use Rattle.std.specs.Fn.{CalledAt};
 ghost use Rattle.std.specs.List.{find, prefix_len};
 ghost use Rattle.std.specs.List.Retain.{IsFiltered};
-ghost use Rattle.std.specs.Option.{option_to_list};
+ghost use Rattle.std.specs.Option.{option_map, option_to_list};
 ghost use Rattle.row_tree.specs.Bounds.{is_before, is_not_before};
 ghost use Rattle.row_tree.specs.Edits.{edit_at};
 ghost use Rattle.row_tree.specs.Split.{IsSplit};
@@ -192,8 +192,19 @@ impl<T: Drop> Tree<T> {
         requires fits { length self.old < usize.MAX }
         ensures { self.new ≡ insert self.old at row }
     {
-        let tree = mem::replace(self, Tree::new());
-        *self = tree.inserted(at, row, spare);
+        match &mut self.root {
+            None => *self = hang(filled(spare, row), Tree::new(), Tree::new()),
+            Some(fork) => {
+                let before = fork.left.len();
+                if at <= before {
+                    fork.left.insert(at, row, spare);
+                } else {
+                    fork.right.insert(at - before - 1, row, spare);
+                }
+                self.count += 1;
+                self.balance();
+            }
+        }
     }
 
     /// Puts a row at the end, in memory that it takes. At want of memory the rows are as before.
@@ -214,8 +225,37 @@ impl<T: Drop> Tree<T> {
         requires { length self.old < usize.MAX }
         ensures { self.new ≡ self.old ++ row ∷ [] }
     {
+        match &mut self.root {
+            None => *self = hang(filled(spare, row), Tree::new(), Tree::new()),
+            Some(fork) => {
+                fork.right.push(row, spare);
+                self.count += 1;
+                self.balance();
+            }
+        }
+    }
+
+    // Turns the root where one of its sides weighs too much beside the other.
+    fn balance(&mut self)
+        ensures { self.new ≡ self.old }
+    {
+        if !self.leans() {
+            return;
+        }
         let tree = mem::replace(self, Tree::new());
-        *self = tree.pushed(row, spare);
+        if let Some(Opened { left, fork, right }) = tree.open() {
+            *self = join(fork, left, right);
+        }
+    }
+
+    // Whether one side of the root weighs more than three times the other.
+    fn leans(&self) -> bool {
+        let Some(fork) = &self.root else {
+            return false;
+        };
+        let fork: &Fork<T> = fork;
+        let (left, right) = (fork.left.len(), fork.right.len());
+        left / 3 > right || right / 3 > left
     }
 
     /// Takes the row at an index that counts from 0 out, with its place. It takes no memory.
@@ -224,10 +264,29 @@ impl<T: Drop> Tree<T> {
         ensures row { slice_get self.old at ≡ Some result.0 }
         ensures rest { self.new ≡ remove self.old at }
     {
-        let tree = mem::replace(self, Tree::new());
-        let Removed { rest, row, spare } = tree.removed(at);
-        *self = rest;
-        (row, spare)
+        let Some(fork) = &mut self.root else {
+            unreachable!()
+        };
+        let before = fork.left.len();
+        let removed = if at < before {
+            fork.left.remove(at)
+        } else if at > before {
+            fork.right.remove(at - before - 1)
+        } else {
+            let Some(mut fork) = self.root.take() else {
+                unreachable!()
+            };
+            let left = mem::replace(&mut fork.left, Tree::new());
+            let right = mem::replace(&mut fork.right, Tree::new());
+            let Some(row) = fork.row.take() else {
+                unreachable!()
+            };
+            *self = glue(left, right);
+            return (row, Spare { fork });
+        };
+        self.count -= 1;
+        self.balance();
+        removed
     }
 
     /// Changes the row at an index that counts from 0. It takes no memory.
@@ -235,8 +294,17 @@ impl<T: Drop> Tree<T> {
         requires { at < length self.old }
         ensures { self.new ≡ edit_at self.old at (E.edited edit) }
     {
-        let tree = mem::replace(self, Tree::new());
-        *self = tree.edited(at, edit);
+        let Some(fork) = &mut self.root else {
+            unreachable!()
+        };
+        let before = fork.left.len();
+        if at < before {
+            fork.left.edit(at, edit);
+        } else if at > before {
+            fork.right.edit(at - before - 1, edit);
+        } else {
+            fork.edit(edit);
+        }
     }
 
     /// Keeps the rows that pass a test, in their order, and takes out the others one by one. It takes no memory.
@@ -258,103 +326,6 @@ impl<T: Drop> Tree<T> {
         }
     }
 
-    fn inserted(self, at: usize, row: T, spare: Spare<T>) -> Tree<T>
-        requires within { at ≤ length self }
-        requires fits { length self < usize.MAX }
-        ensures { result ≡ insert self at row }
-    {
-        let Some(Opened { left, fork, right }) = self.open() else {
-            return hang(filled(spare, row), Tree::new(), Tree::new());
-        };
-        let before = left.len();
-        if at <= before {
-            let left = left.inserted(at, row, spare);
-            join(fork, left, right)
-        } else {
-            let right = right.inserted(at - before - 1, row, spare);
-            join(fork, left, right)
-        }
-    }
-
-    fn pushed(self, row: T, spare: Spare<T>) -> Tree<T>
-        requires { length self < usize.MAX }
-        ensures { result ≡ self ++ row ∷ [] }
-    {
-        let Some(Opened { left, fork, right }) = self.open() else {
-            return hang(filled(spare, row), Tree::new(), Tree::new());
-        };
-        join(fork, left, right.pushed(row, spare))
-    }
-
-    fn edited<E: Edit<T>>(self, at: usize, edit: E) -> Tree<T>
-        requires { at < length self }
-        ensures { result ≡ edit_at self at (E.edited edit) }
-    {
-        let Some(
-            Opened {
-                left,
-                mut fork,
-                right,
-            },
-        ) = self.open()
-        else {
-            unreachable!()
-        };
-        let before = left.len();
-        if at < before {
-            hang(fork, left.edited(at, edit), right)
-        } else if at > before {
-            hang(fork, left, right.edited(at - before - 1, edit))
-        } else {
-            let Some(row) = fork.row.take() else {
-                unreachable!()
-            };
-            hang(filled(Spare { fork }, edit.edit(row)), left, right)
-        }
-    }
-
-    fn removed(self, at: usize) -> Removed<T>
-        requires { at < length self }
-        ensures row { slice_get self at ≡ Some result.row }
-        ensures rest { result.rest ≡ remove self at }
-    {
-        let Some(
-            Opened {
-                left,
-                mut fork,
-                right,
-            },
-        ) = self.open()
-        else {
-            unreachable!()
-        };
-        let before = left.len();
-        if at < before {
-            let Removed { rest, row, spare } = left.removed(at);
-            Removed {
-                rest: join(fork, rest, right),
-                row,
-                spare,
-            }
-        } else if at > before {
-            let Removed { rest, row, spare } = right.removed(at - before - 1);
-            Removed {
-                rest: join(fork, left, rest),
-                row,
-                spare,
-            }
-        } else {
-            let Some(row) = fork.row.take() else {
-                unreachable!()
-            };
-            Removed {
-                rest: glue(left, right),
-                row,
-                spare: Spare { fork },
-            }
-        }
-    }
-
     fn take_first(self) -> Option<First<T>>
         ensures some { IfSome result (λ f. self ≡ option_to_list f.fork.value.row ++ f.rest) }
         ensures row { IfSome result (λ f. IsSome f.fork.value.row) }
@@ -369,6 +340,18 @@ impl<T: Drop> Tree<T> {
                 rest: join(fork, rest, right),
             }),
         }
+    }
+}
+
+impl<T: Drop> Fork<T> {
+    fn edit<E: Edit<T>>(&mut self, edit: E)
+        requires { IsSome self.old.row }
+        ensures { self.new ≡ record self.old { row = option_map (E.edited edit) self.old.row } }
+    {
+        let Some(row) = self.row.take() else {
+            unreachable!()
+        };
+        self.row = Some(edit.edit(row));
     }
 }
 
