@@ -21,7 +21,7 @@ use Rattle.ready_slots.specs.Shown.{is_any_offered, is_nameless, offered_to}
 use Rattle.ready_slots.specs.Taking.{row_at, taken_where, told}
 use Rattle.ready_slots.proofs.Inserting.{inserted_is_free, rows_after_insert}
 use Rattle.ready_slots.proofs.Standing.{is_Equal, stands_where_put}
-use Rattle.ready_slots.proofs.Taking.{kept_twice, none_gone, take_told}
+use Rattle.ready_slots.proofs.Taking.{kept_told, kept_twice, none_gone, take_told}
 
 -- ---- one row is put in
 
@@ -80,6 +80,25 @@ module _ (m : MsgRow) (consumer : Option (List ℕ)) (stamp : ℕ) (queue : List
       (subst (λ (p : List ℤ). EditsRows m.queue consumer (ready.with_row p stamp 0) middle after) place_is
       (subst (λ (c : Option (List ℕ)). EditsRows m.queue c (ready.with_row place stamp 0) middle after) name_is
       (subst (λ (q : List ℕ). EditsRows q name (ready.with_row place stamp 0) middle after) queue_is puts)))
+
+-- a row that is put in place of the one that stood there
+pub puts_set : (m : MsgRow) (consumer : Option (List ℕ)) (stamp : ℕ) (before after : List Group) → EditsRows m.queue consumer (ready.set_row m.place stamp 0) before after
+    → PutsRow m consumer stamp before after
+puts_set m consumer stamp before after edits q c =
+    let row : Row = row_at stamp m in
+    let own : List Ready → List Ready = λ rs. ready.set_row m.place stamp 0 rs in
+    let P : Bool → Type 0 = λ b. is_of q c (key m.queue consumer) ≡ b
+    → map stamped (cond b (own (rows_of m.queue consumer before)) (rows_of q c before)) ≡ put_where b row (told q c before) in
+    ap (map stamped) (edits q c)
+    ∙ elim (is_of q c (key m.queue consumer)) as P [
+      | true ↦ λ e.
+          let same = names_exact m.queue consumer q c (is_Equal (names_cmp m.queue consumer q c) e) in
+          ap (λ x. map stamped (own (rows_of x consumer before))) same.0
+          ∙ ap (λ x. map stamped (own (rows_of q x before))) same.1
+          ∙ put_kept (record { place = m.place; id = stamp; slot = 0 }) (ready.without_row m.place stamp (rows_of q c before))
+          ∙ ap (put_in_order row_cmp row) (kept_told (λ (r : Row). not (is_eq (row_cmp r row))) (rows_of q c before))
+      | false ↦ λ e. refl
+    ] refl
 
 -- ---- rows are put in one by one
 

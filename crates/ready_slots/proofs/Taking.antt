@@ -24,7 +24,7 @@ use Rattle.ready_slots.proofs.Standing.{is_Equal, stands_where_put}
 
 -- ---- one row is taken out
 
-kept_told : (p : Row → Bool) (xs : List Ready) → map stamped (filter (λ x. p (stamped x)) xs) ≡ filter p (map stamped xs)
+pub kept_told : (p : Row → Bool) (xs : List Ready) → map stamped (filter (λ x. p (stamped x)) xs) ≡ filter p (map stamped xs)
 kept_told p [] = refl
 kept_told p (x ∷ xs) =
     let rest = filter (λ y. p (stamped y)) xs in

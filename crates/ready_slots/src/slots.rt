@@ -1,12 +1,12 @@
 // The index of ready slots, and what edits of messages make of it.
-ghost use Rattle.std.specs.Prelude.{◌≡◌, OnOk, IfOk, [], option_copied};
+ghost use Rattle.std.specs.Prelude.{◌≡◌, OnOk, [], option_copied};
 ghost use Rattle.ready_slots.specs.Edits.{Puts, Removes};
 ghost use Rattle.ready_slots.specs.Putting.{PutsEach, PutsNameless, PutsRow};
 ghost use Rattle.ready_slots.specs.Slot.{ChangesSlot, SetsNamed, SetsRow, slot_name};
 ghost use Rattle.ready_slots.specs.Taking.{TakesEach, TakesNameless, TakesRow};
 
 use crate::showing::{offered_to, shown};
-use payload_records::{Copied, Name};
+use payload_records::Name;
 use place_keys::Place;
 use queue_rows::MsgRow;
 use sort_index::ReadyIndex;
@@ -36,15 +36,6 @@ fn name_of(message: &MsgRow, slot: u64) -> Option<&Name>
     match message.slot(slot) {
         Some(slot) => slot.name.as_ref(),
         None => None,
-    }
-}
-
-fn copied(name: Option<&Name>) -> Result<Option<Name>, AllocError>
-    ensures { IfOk result (λ copy. copy ≡ option_copied name.entry) }
-{
-    match name {
-        None => Ok(None),
-        Some(name) => Ok(Some(name.copied()?)),
     }
 }
 
@@ -108,15 +99,8 @@ impl ReadySlots {
     ) -> Result<(), AllocError>
         ensures { OnOk result (PutsRow message.now (option_copied consumer.entry) stamp self.old self.new) }
     {
-        let queue = message.queue.copied()?;
-        let name = copied(consumer)?;
-        let place = message.place.copied()?;
-        self.index.reserve(1)?;
-        let _slot = self
-            .index
-            .take(&message.queue, consumer, &message.place, stamp);
-        self.index.put(queue, name, place, stamp, 0);
-        Ok(())
+        self.index
+            .set(&message.queue, consumer, &message.place, stamp, 0)
     }
 
     fn put_nameless(&mut self, stamp: u64, message: &MsgRow) -> Result<(), AllocError>

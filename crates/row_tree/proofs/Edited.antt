@@ -3,7 +3,7 @@ use Rattle.std.proofs.Common.{◌≡◌, ℕ, ◌+◌, ◌-◌, ◌<◌, suc, ze
 use Rattle.std.specs.Option.{option_map, option_map_or, option_to_list}
 use Rattle.row_tree.specs.Edits.{edit_at}
 
-edit_later : {T : Type 0} (x : T) (xs : List T) (i : ℕ) (f : T → T) → edit_at (x ∷ xs) (suc i) f ≡ x ∷ edit_at xs i f
+pub edit_later : {T : Type 0} (x : T) (xs : List T) (i : ℕ) (f : T → T) → edit_at (x ∷ xs) (suc i) f ≡ x ∷ edit_at xs i f
 edit_later {T} x xs i f =
     let P : Option T → Type 0 = λ o. option_map_or (λ y. x ∷ slice_set xs i (f y)) o (x ∷ xs) ≡ x ∷ option_map_or (λ y. slice_set xs i (f y)) o xs in
     elim (slice_get xs i) as P [ None ↦ refl | Some y ↦ refl ]

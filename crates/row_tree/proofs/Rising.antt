@@ -11,12 +11,12 @@ use Rattle.row_tree.specs.Bounds.{Falls}
 use Rattle.row_tree.specs.Order.{IsBeforeAll, IsRising, put_in_order, without_first}
 use Rattle.row_tree.specs.Split.{NonePass, IsSplit}
 
-fails_after : (o p : Ordering) → (p ≢ Greater → o ≡ Less) → is_lt o ≡ false → p ≡ Greater
+pub fails_after : (o p : Ordering) → (p ≢ Greater → o ≡ Less) → is_lt o ≡ false → p ≡ Greater
 fails_after o Less falls late = let less = falls (λ e. cc e) in cc
 fails_after o Equal falls late = let less = falls (λ e. cc e) in cc
 fails_after o Greater falls late = refl
 
-none_after : {T : Type 0} {order : T → T → Ordering} (standing : T → Ordering) → Falls order standing → (x : T) (xs : List T) → is_lt (standing x) ≡ false → IsBeforeAll order x xs
+pub none_after : {T : Type 0} {order : T → T → Ordering} (standing : T → Ordering) → Falls order standing → (x : T) (xs : List T) → is_lt (standing x) ≡ false → IsBeforeAll order x xs
     → NonePass (λ y. is_lt (standing y)) xs
 none_after standing falls x [] late before = tt
 none_after standing falls x (y ∷ ys) late before =
@@ -29,7 +29,7 @@ split_from_rising standing falls [] rising = tt
 split_from_rising standing falls (x ∷ xs) rising = (λ late. none_after standing falls x xs late rising.0, split_from_rising standing falls xs rising.1)
 
 -- none stands at a bound past a row that does not stand before it
-all_kept : {T : Type 0} {order : T → T → Ordering} (standing : T → Ordering) → Falls order standing → (x : T) (xs : List T) → is_lt (standing x) ≡ false → IsBeforeAll order x xs
+pub all_kept : {T : Type 0} {order : T → T → Ordering} (standing : T → Ordering) → Falls order standing → (x : T) (xs : List T) → is_lt (standing x) ≡ false → IsBeforeAll order x xs
     → filter (λ y. not (is_eq (standing y))) xs ≡ xs
 all_kept standing falls x [] late before = refl
 all_kept standing falls x (y ∷ ys) late before =

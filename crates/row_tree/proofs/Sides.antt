@@ -48,7 +48,7 @@ get_append_left [] r at x there = cc there
 get_append_left (y ∷ ys) r zero x there = there
 get_append_left (y ∷ ys) r (suc i) x there = get_append_left ys r i x there
 
-get_append_right : {T : Type 0} (l r : List T) (i : ℕ) → slice_get (l ++ r) (length l + i) ≡ slice_get r i
+pub get_append_right : {T : Type 0} (l r : List T) (i : ℕ) → slice_get (l ++ r) (length l + i) ≡ slice_get r i
 get_append_right [] r i = let e : 0 + i ≡ i = omega arith in ap (slice_get r) e
 get_append_right (y ∷ ys) r i =
     let e : length (y ∷ ys) + i ≡ suc (length ys + i) = omega arith in

@@ -16,7 +16,7 @@ use Rattle.sort_index.specs.declared.group.Group.{Group}
 use Rattle.sort_index.specs.declared.group.Ready.{Ready}
 use Rattle.row_tree.proofs.Finding.{find_put_other, find_put_here, find_filter_other, none_kept, find_none, find_alike}
 
-is_Equal : (o : Ordering) → is_eq o ≡ true → o ≡ Equal
+pub is_Equal : (o : Ordering) → is_eq o ≡ true → o ≡ Equal
 is_Equal Less e = cc e
 is_Equal Equal e = refl
 is_Equal Greater e = cc e
@@ -26,12 +26,12 @@ passes_not true e = refl
 passes_not false e = cc e
 
 -- what ties with the names is of the names that these are
-alike : (queue : List ℕ) (consumer : Option (List ℕ)) (q : List ℕ) (c : Option (List ℕ)) (g : Group) → group_cmp g (key queue consumer) ≡ Equal
+pub alike : (queue : List ℕ) (consumer : Option (List ℕ)) (q : List ℕ) (c : Option (List ℕ)) (g : Group) → group_cmp g (key queue consumer) ≡ Equal
     → is_of q c g ≡ is_of q c (key queue consumer)
 alike queue consumer q c g tie = ap is_eq (group_cmp_total.congr g (key queue consumer) (key q c) tie)
 
 -- names that tie have the same groups
-same_names : (queue : List ℕ) (consumer : Option (List ℕ)) (q : List ℕ) (c : Option (List ℕ)) → is_of q c (key queue consumer) ≡ true → (g : Group) → is_of q c g ≡ is_of queue consumer g
+pub same_names : (queue : List ℕ) (consumer : Option (List ℕ)) (q : List ℕ) (c : Option (List ℕ)) → is_of q c (key queue consumer) ≡ true → (g : Group) → is_of q c g ≡ is_of queue consumer g
 same_names queue consumer q c same g =
     ap is_eq (sym (alike_right group_cmp_total (key queue consumer) (key q c) g (is_Equal (group_cmp (key queue consumer) (key q c)) same)))
 
@@ -153,7 +153,7 @@ edits_none queue consumer edit gs same = λ q c.
       | false ↦ λ e. refl
     ] refl
 
-found_passes : (p : Group → Bool) (xs : List Group) (x : Group) → find p xs ≡ Some x → p x ≡ true
+pub found_passes : (p : Group → Bool) (xs : List Group) (x : Group) → find p xs ≡ Some x → p x ≡ true
 found_passes p [] x found = cc found
 found_passes p (y ∷ ys) x found =
     let P : Bool → Type 0 = λ b. p y ≡ b → cond b (Some y) (find p ys) ≡ Some x → p x ≡ true in

@@ -1,17 +1,17 @@
 // The index of the slots that are ready.
-ghost use Rattle.std.specs.Prelude.{◌≡◌, ◌≢◌, ◌+◌, ◌<◌, ◌≤◌, ℕ, [], filter, length, OnOk, IfSome, IfNone, option_copied};
-ghost use Rattle.std.specs.List.{All, find};
+ghost use Rattle.std.specs.Prelude.{◌≡◌, ◌+◌, ◌<◌, ◌≤◌, ◌^◌, ℕ, [], None, filter, length, OnErr, OnOk, IfErr, IfOk, IfSome, option_copied};
+ghost use Rattle.std.specs.List.{find};
 ghost use Rattle.std.specs.Option.{option_map, option_to_list};
 ghost use Rattle.row_tree.specs.Found.{kept_by};
-ghost use Rattle.std.specs.declared.cmp.Ordering.TheVariants.{Equal};
 ghost use Rattle.sort_index.specs.Fitting.{AllFit};
-ghost use Rattle.sort_index.specs.Ready.{AreRising, EditsRows, HasNames, IsFree};
-ghost use Rattle.sort_index.specs.Ready.{first_slot, first_slot_past, group_cmp, is_at, is_past, is_past_row, is_row};
-ghost use Rattle.sort_index.specs.Ready.{rows_of, slot_of, with_row, with_rows, without_first_at, without_group, without_row};
+ghost use Rattle.sort_index.specs.Ready.{AreRising, EditsRows, IsFree};
+ghost use Rattle.sort_index.specs.Ready.{first_slot, first_slot_past, is_at, is_of, is_past, is_past_row, is_row};
+ghost use Rattle.sort_index.specs.Ready.{rows_of, set_row, slot_of, with_row, without_first_at, without_row};
 
 use crate::bounds::{AtGroup, AtRow, PastPlace, PastRow};
+use crate::changes::{RowSet, RowTaken};
 use crate::{Group, Ready, RowsPast, Steps};
-use payload_records::Name;
+use payload_records::{Copied, Name};
 use place_keys::{Place, compare};
 use row_tree::{Ordered, Spare, Stock};
 use std::alloc::{AllocError, Global};
@@ -85,15 +85,47 @@ impl ReadyIndex {
         ensures rows { EditsRows queue consumer (with_row place id slot) self.old.groups self.new.groups }
         ensures room { self.old.spare ≡ self.new.spare + 1 }
     {
-        let (mut group, spare) = take_group(
-            &mut self.groups,
-            &mut self.group_stock,
-            queue,
-            consumer,
-        );
-        group.rows.put(Ready { place, id, slot }, self.stock.take());
-        self.groups.put(group, spare);
         self.puts += 1;
+        let row = RowSet {
+            row: Ready { place, id, slot },
+            spare: self.stock.take(),
+        };
+        if let Err(row) = set_there(&mut self.groups, &queue, consumer.as_ref(), row) {
+            let spare = self.group_stock.take();
+            add_group(&mut self.groups, spare, queue, consumer, row);
+        }
+    }
+
+    /// Puts a slot in at a place, in place of the one that the queue and consumer have there with this id, if they have one. It takes its
+    /// memory itself, and at want of memory the rows are as before. Names are copied only where the queue and consumer had no rows.
+    pub fn set(
+        &mut self,
+        queue: &Name,
+        consumer: Option<&Name>,
+        place: &Place,
+        id: u64,
+        slot: u32,
+    ) -> Result<(), AllocError>
+        ensures ok { OnOk result (EditsRows queue.now (option_copied consumer.entry)
+            (set_row place.now id slot) self.old.groups self.new.groups) }
+        ensures err { OnErr result (self.new.groups ≡ self.old.groups) }
+        ensures room { self.old.spare ≤ self.new.spare + 1 }
+    {
+        let row = Ready {
+            place: place.copied()?,
+            id,
+            slot,
+        };
+        self.reserve(1)?;
+        self.puts += 1;
+        let spare = self.stock.take();
+        if let Err(row) = set_there(&mut self.groups, queue, consumer, RowSet { row, spare }) {
+            let queue = queue.copied()?;
+            let consumer = copied(consumer)?;
+            let spare = self.group_stock.take();
+            add_group(&mut self.groups, spare, queue, consumer, row);
+        }
+        Ok(())
     }
 
     /// Takes the slot with an id at a place out, and tells which it was, or None where the queue and consumer have none there. It
@@ -265,58 +297,62 @@ fn slot_of(row: Option<&Ready>) -> Option<(u64, u32)>
     Some((row.id, row.slot))
 }
 
-fn taken_slot(taken: Option<(Ready, Spare<Ready>)>) -> Option<u32>
-    ensures { result ≡ option_map (λ taken. taken.0.slot) taken }
+fn copied(name: Option<&Name>) -> Result<Option<Name>, AllocError>
+    ensures { IfOk result (λ copy. copy ≡ option_copied name.entry) }
 {
-    let (row, _spare) = taken?;
-    Some(row.slot)
-}
-
-// Takes the group of a queue and a consumer out, or makes one with no rows.
-fn take_group(
-    groups: &mut Ordered<Group>,
-    stock: &mut Stock<Group>,
-    queue: Name,
-    consumer: Option<Name>,
-) -> (Group, Spare<Group>)
-    requires { 0 < stock.old }
-    ensures names { HasNames queue consumer result.0 }
-    ensures rows { result.0.rows ≡ rows_of queue consumer groups.old }
-    ensures rest { groups.new ≡ without_group queue consumer groups.old }
-    ensures room { length groups.new + 1 + stock.new ≤ length groups.old + stock.old }
-    ensures kept { stock.old ≤ stock.new + 1 }
-{
-    match take_named(groups, &queue, consumer.as_ref()) {
-        Some(taken) => taken,
-        None => (
-            Group {
-                queue,
-                consumer,
-                rows: Ordered::new(),
-            },
-            stock.take(),
-        ),
+    match name {
+        None => Ok(None),
+        Some(name) => Ok(Some(name.copied()?)),
     }
 }
 
-// Takes the group of a queue and a consumer out.
-fn take_named(
+// Puts a row into the group of a queue and a consumer, or gives it back where they have none.
+fn set_there(
     groups: &mut Ordered<Group>,
     queue: &Name,
     consumer: Option<&Name>,
-) -> Option<(Group, Spare<Group>)>
-    ensures names { IfSome result (λ taken. HasNames queue.now (option_copied consumer.entry) taken.0) }
-    ensures rows { IfSome result
-        (λ taken. taken.0.rows ≡ rows_of queue.now (option_copied consumer.entry) groups.old) }
-    ensures none { IfNone result (rows_of queue.now (option_copied consumer.entry) groups.old ≡ []) }
-    ensures rest { groups.new ≡ without_group queue.now (option_copied consumer.entry) groups.old }
-    ensures less { IfSome result (λ _. length groups.new + 1 ≤ length groups.old) }
-    ensures len { length groups.new ≤ length groups.old }
+    row: RowSet,
+) -> Result<(), RowSet>
+    requires { IfSome (find (is_of queue.now (option_copied consumer)) groups.old)
+        (λ group. length group.rows + 1 < 2 ^ 64) }
+    ensures rows { OnOk result (EditsRows queue.now (option_copied consumer.entry)
+        (set_row row.row.place row.row.id row.row.slot) groups.old groups.new) }
+    ensures none { OnErr result (find (is_of queue.now (option_copied consumer.entry)) groups.old ≡ None) }
+    ensures back { IfErr result (λ back. back ≡ row) }
+    ensures kept { OnErr result (groups.new ≡ groups.old) }
+    ensures fit { (n : ℕ) → AllFit n groups.old → AllFit (n + 1) groups.new }
+    ensures len { length groups.new ≡ length groups.old }
 {
-    groups.take_at(&AtGroup { queue, consumer })
+    groups.change_at(&AtGroup { queue, consumer }, row)
 }
 
-// Takes the row with an id at a place out of the group of a queue and a consumer.
+// Makes a group of one row.
+fn add_group(
+    groups: &mut Ordered<Group>,
+    spare: Spare<Group>,
+    queue: Name,
+    consumer: Option<Name>,
+    first: RowSet,
+)
+    requires none { find (is_of queue consumer) groups.old ≡ None }
+    requires fits { length groups.old < usize.MAX }
+    ensures rows { EditsRows queue consumer (set_row first.row.place first.row.id first.row.slot)
+        groups.old groups.new }
+    ensures fit { (n : ℕ) → AllFit n groups.old → 0 < n → AllFit n groups.new }
+    ensures len { length groups.new ≡ length groups.old + 1 }
+{
+    let RowSet { row, spare: place } = first;
+    let mut rows = Ordered::new();
+    rows.put(row, place);
+    let group = Group {
+        queue,
+        consumer,
+        rows,
+    };
+    groups.put(group, spare);
+}
+
+// Takes the row with an id at a place out of the group of a queue and a consumer, and the group where no row is left in it.
 fn take_row(
     groups: &mut Ordered<Group>,
     queue: &Name,
@@ -324,30 +360,21 @@ fn take_row(
     place: &Place,
     id: u64,
 ) -> Option<u32>
-    requires { length groups.old ≤ usize.MAX }
     ensures slot { result ≡ option_map (λ row. row.slot) (find (is_row place.now id)
         (rows_of queue.now (option_copied consumer.entry) groups.old)) }
     ensures rows { EditsRows queue.now (option_copied consumer.entry) (without_row place.now id)
         groups.old groups.new }
+    ensures gone { without_row place.now id (rows_of queue.now (option_copied consumer.entry) groups.old) ≡ []
+        → find (is_of queue.now (option_copied consumer.entry)) groups.new ≡ None }
     ensures fit { (n : ℕ) → AllFit n groups.old → AllFit n groups.new }
     ensures len { length groups.new ≤ length groups.old }
 {
-    let Some((mut group, spare)) = take_named(groups, queue, consumer) else {
+    let at = AtGroup { queue, consumer };
+    let Ok((slot, is_empty)) = groups.change_at(&at, RowTaken { place, id }) else {
         return None;
     };
-    let taken = group.rows.take_at(&AtRow { place, id });
-    put_back(groups, group, spare);
-    taken_slot(taken)
-}
-
-// Puts a group back where it has rows.
-fn put_back(groups: &mut Ordered<Group>, group: Group, spare: Spare<Group>)
-    requires free { All (λ other. group_cmp other group ≢ Equal) groups.old }
-    requires fits { length groups.old < usize.MAX }
-    ensures groups { groups.new ≡ with_rows group groups.old }
-    ensures len { length groups.new ≤ length groups.old + 1 }
-{
-    if group.rows.len() > 0 {
-        groups.put(group, spare);
+    if is_empty {
+        let _group = groups.take_at(&at);
     }
+    slot
 }

@@ -3,6 +3,7 @@
 #![tactic(auto)]
 
 mod bounds;
+mod changes;
 mod group;
 mod index;
 mod rows_past;

@@ -1,17 +1,16 @@
-use Rattle.std.proofs.Common.{List, option_copied, subst, ◌∙◌}
+use Rattle.std.proofs.Common.{List, option_copied, subst}
+use Rattle.std.proofs.lemmas.Result.{on_ok_weaker}
 use Rattle.sort_index.specs.declared.group.Group.{Group}
 use Rattle.ready_slots.specs.Putting.{PutsRow}
-use Rattle.ready_slots.proofs.Putting.{copies_free, copies_put}
+use Rattle.ready_slots.proofs.Putting.{puts_set}
 use Rattle.ready_slots.proofs.slots.ReadySlots.put_row.Goals as goal
-
-pub put-requires-clause-free : goal.put-requires-clause-free
-put-requires-clause-free c =
-    copies_free c.args.message.now (option_copied c.args.consumer) c.args.stamp c.in_ok-queue.queue c.in_ok-name.name c.in_ok-place.place c.in_ok-queue.ensures c.in_ok-name.ensures c.in_ok-place.ensures
-    c.reserve.new.self.groups c.take-slot.new.self.groups c.take-slot.ensures.rows
 
 pub returns : goal.returns
 returns c =
-    let after = c.put.new.self.groups in
-    subst (λ (gs : List Group). PutsRow c.args.message.now (option_copied c.args.consumer) c.args.stamp gs after) (c.reserve.ensures.rows ∙ c.self.view_is)
-    (copies_put c.args.message.now (option_copied c.args.consumer) c.args.stamp c.in_ok-queue.queue c.in_ok-name.name c.in_ok-place.place c.in_ok-queue.ensures c.in_ok-name.ensures c.in_ok-place.ensures
-    c.reserve.new.self.groups c.take-slot.new.self.groups c.take-slot.ensures.rows after c.put.ensures.rows)
+    let m = c.args.message.now in
+    let consumer = option_copied c.args.consumer in
+    let after = c.set.new.self.groups in
+    on_ok_weaker c.set.result
+    (λ edits.
+    subst (λ (gs : List Group). PutsRow m consumer c.args.stamp gs after) c.self.view_is (puts_set m consumer c.args.stamp c.self.inside.index.groups after edits))
+    c.set.ensures.ok
