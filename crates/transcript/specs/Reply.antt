@@ -13,9 +13,8 @@ use Rattle.queue_rows.specs.declared.reply.ConditionFault.{ConditionFault}
 use Rattle.queue_rows.specs.declared.reply.ConditionFault.TheVariants as conditions
 use Rattle.queue_rows.specs.declared.reply.LimitName.{LimitName}
 use Rattle.queue_rows.specs.declared.reply.LimitName.TheVariants as limits
-use Rattle.queue_rows.specs.declared.statement.MsgId.{MsgId}
 use Rattle.transcript.specs.Record.{record_text, props_text}
-use Rattle.transcript.specs.Text.{id_text, session_text, json_text, json_or_null}
+use Rattle.transcript.specs.Text.{spaced_id_text, session_text, json_text, json_or_null}
 
 abbrev pub reply_word : Reply → List ℕ
 reply_word replies.Ok = codes "ok"
@@ -54,11 +53,14 @@ abbrev pub payload_text : Option Shown → List ℕ
 payload_text None = []
 payload_text (Some shown) = codes " " ++ record_text shown
 
+-- which message it is, and how it stood
+abbrev pub message_start : GivenMessage → List ℕ
+message_start m =
+    spaced_id_text m.id.db m.id.number ++ codes " priority " ++ signed_decimal m.priority ++ codes " retries " ++ decimal m.retries
+
 -- what a message reply says before its properties
 abbrev pub message_head : GivenMessage → List ℕ
-message_head m =
-    codes " " ++ id_text m.id.db m.id.number ++ codes " priority " ++ signed_decimal m.priority ++ codes " retries " ++ decimal m.retries
-    ++ codes " corr " ++ json_or_null m.corr ++ payload_text m.payload
+message_head m = message_start m ++ codes " corr " ++ json_or_null m.corr ++ payload_text m.payload
 
 abbrev pub message_text : GivenMessage → List ℕ
 message_text m = message_head m ++ props_text m.props
@@ -67,9 +69,6 @@ message_text m = message_head m ++ props_text m.props
 abbrev pub agent_text : ServedAgent → List ℕ
 agent_text agent =
     codes " " ++ decimal agent.number ++ codes " " ++ agent.queue ++ codes " " ++ unwrap_or agent.consumer (codes "-")
-
-abbrev pub enqueued_text : MsgId → List ℕ
-enqueued_text id = codes " " ++ id_text id.db id.number
 
 -- no history has a payload refused for want of memory
 abbrev pub payload_fault_word : PayloadFault → List ℕ
@@ -102,7 +101,7 @@ limit_text limits.Ids = codes " ids"
 
 -- what stands behind the word
 abbrev pub reply_details : List SessionScript → Reply → List ℕ
-reply_details scripts (replies.Enqueued id) = enqueued_text id
+reply_details scripts (replies.Enqueued id) = spaced_id_text id.db id.number
 reply_details scripts (replies.Message message) = message_text message
 reply_details scripts (replies.Agent agent) = agent_text agent
 reply_details scripts (replies.Held session) = codes " " ++ session_text scripts session

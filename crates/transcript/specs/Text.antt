@@ -25,6 +25,10 @@ other_of Away = Home
 abbrev pub id_text : DbId → ℕ → List ℕ
 id_text db number = letter_of db ++ decimal number
 
+-- an id behind a space
+abbrev pub spaced_id_text : DbId → ℕ → List ℕ
+spaced_id_text db number = codes " " ++ id_text db number
+
 -- as h7.2: a slot of that message
 abbrev pub slot_text : DbId → ℕ → ℕ → List ℕ
 slot_text db id slot = id_text db id ++ codes "." ++ decimal slot

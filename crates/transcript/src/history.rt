@@ -1,13 +1,14 @@
 // The text of a history.
 ghost use Rattle.std.specs.Prelude.{◌≡◌, OnOk, IfOk, option_copied, slice_get};
-ghost use Rattle.transcript.specs.Print.{told_text, statement_of, call_text, due_lines, end_line, entry_line, print};
+ghost use Rattle.transcript.specs.Print.{told_text, statement_of, call_head, call_text, due_lines, end_line, entry_line, print};
 ghost use Rattle.transcript.specs.Text.{Writes};
 ghost use Rattle.transcript.specs.Told.{AreToldBy};
 
 use crate::line::{put_arrive, put_confirm, put_offer, put_timer_lines};
 use crate::reply::put_reply;
+use crate::text::put_number;
 use crate::told::ToldCalls;
-use crate::word::statement_word;
+use crate::word::spaced_statement_word;
 use aq_base::DbId;
 use payload_records::List;
 use queue_rows::{Entry, History, Reply, SessionScript, Statement, Step};
@@ -37,6 +38,20 @@ fn put_told(
     }
 }
 
+fn put_call_head(
+    out: &mut String,
+    session: &str,
+    number: u32,
+    statement: &Statement,
+) -> Result<(), AllocError>
+    ensures { OnOk result (Writes out.old out.new (call_head session.now number statement.now)) }
+{
+    out.push_str(session)?;
+    out.push('.')?;
+    put_number(out, u64::from(number))?;
+    out.push_str(spaced_statement_word(statement))
+}
+
 fn put_call(
     out: &mut String,
     scripts: &List<SessionScript>,
@@ -53,11 +68,9 @@ fn put_call(
     let Some(statement) = statement_of(script, number) else {
         return Ok(());
     };
-    let name = script.name.as_str();
-    let word = statement_word(statement);
-    write!(out, "{name}.{number} {word} ")?;
+    put_call_head(out, script.name.as_str(), number, statement)?;
     put_told(out, scripts, told, reply)?;
-    out.push_str("\n")
+    out.push('\n')
 }
 
 fn put_end(out: &mut String, scripts: &List<SessionScript>, session: u32) -> Result<(), AllocError>

@@ -4,8 +4,10 @@ ghost use Rattle.queue_rows.specs.Rows.{table_of};
 ghost use Rattle.transcript.specs.Messages.{state_word, slot_head, slot_tail, slot_line, number_at, slot_lines, numbers_text, place_part, order_part, origin_part, payload_part, message_line, message_lines};
 ghost use Rattle.transcript.specs.Text.{Writes};
 
-use crate::record::{comma_if, put_cells, put_props};
-use crate::text::{Id, Slot, name_or_null, put_json_or_null, put_number_or_null, word_of};
+use crate::record::{put_cells, put_comma_if, put_props};
+use crate::text::{
+    Id, Slot, name_or_null, put_json_or_null, put_number_or_null, put_signed, word_of,
+};
 use aq_base::DbId;
 use payload_records::Name;
 use queue_rows::{MsgId, MsgRow, SlotRow, SlotState, TableRow, Tables, find_queue, find_table};
@@ -88,8 +90,8 @@ fn put_numbers(out: &mut String, numbers: &[i64]) -> Result<(), AllocError>
 {
     let mut later = false;
     for number in numbers {
-        out.push_str(comma_if(later))?;
-        write!(out, "{number}")?;
+        put_comma_if(out, later)?;
+        put_signed(out, *number)?;
         later = true;
     }
     Ok(())

@@ -4,7 +4,7 @@ ghost use Rattle.serde_json.specs.Written.{comma_if};
 ghost use Rattle.transcript.specs.Record.{cells_text, record_text, kind_word, fields_text, props_object, props_text, datum_text, member_text, member_of};
 ghost use Rattle.transcript.specs.Text.{Writes, json_text};
 
-use crate::text::put_json;
+use crate::text::{put_json, put_signed};
 use payload_records::{Datum, Field, Kind, List, Prop, Record, RecordType};
 use queue_rows::Shown;
 use std::alloc::AllocError;
@@ -15,16 +15,16 @@ fn put_datum(out: &mut String, datum: Option<&Datum>) -> Result<(), AllocError>
 {
     match datum {
         None | Some(Datum::Null) => out.push_str("null"),
-        Some(Datum::Num(number)) => write!(out, "{number}"),
+        Some(Datum::Num(number)) => put_signed(out, *number),
         Some(Datum::Text(text)) => put_json(out, text.as_str()),
     }
 }
 
-/// A comma where something stands before.
-pub(crate) fn comma_if(later: bool) -> &'static str
-    ensures { result.now ≡ comma_if later }
+/// Puts a comma in where something stands before.
+pub(crate) fn put_comma_if(out: &mut String, later: bool) -> Result<(), AllocError>
+    ensures { OnOk result (Writes out.old out.new (comma_if later)) }
 {
-    if later { "," } else { "" }
+    if later { out.push(',') } else { Ok(()) }
 }
 
 fn put_member(
@@ -35,9 +35,9 @@ fn put_member(
 ) -> Result<(), AllocError>
     ensures { OnOk result (Writes out.old out.new (member_of later name.now (option_copied datum.entry))) }
 {
-    out.push_str(comma_if(later))?;
+    put_comma_if(out, later)?;
     put_json(out, name)?;
-    out.push_str(":")?;
+    out.push(':')?;
     put_datum(out, datum)
 }
 
@@ -49,7 +49,7 @@ pub(crate) fn put_cells(
 ) -> Result<(), AllocError>
     ensures { OnOk result (Writes out.old out.new (cells_text kind.now values.now.cells)) }
 {
-    out.push_str("{")?;
+    out.push('{')?;
     let mut cells = values.cells.iter();
     let mut later = false;
     for field in kind.fields() {
@@ -57,7 +57,7 @@ pub(crate) fn put_cells(
         put_member(out, later, field.name.as_str(), datum)?;
         later = true;
     }
-    out.push_str("}")
+    out.push('}')
 }
 
 /// Puts a record in as a JSON object.
@@ -80,9 +80,9 @@ fn put_field(out: &mut String, later: bool, field: &Field) -> Result<(), AllocEr
     ensures { OnOk result (Writes out.old out.new
         (member_text later field.now.name (json_text (kind_word field.now.kind)))) }
 {
-    out.push_str(comma_if(later))?;
+    put_comma_if(out, later)?;
     put_json(out, field.name.as_str())?;
-    out.push_str(":")?;
+    out.push(':')?;
     put_json(out, kind_word(field.kind))
 }
 

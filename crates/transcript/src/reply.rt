@@ -1,13 +1,15 @@
 // The text of a reply: a word, and with some words more behind it.
 ghost use Rattle.std.specs.Prelude.{◌≡◌, OnOk, unwrap_or, codes};
-ghost use Rattle.transcript.specs.Reply.{reply_word, payload_text, message_head, message_text, agent_text, enqueued_text, payload_fault_word, payload_fault_place, payload_fault_text, condition_fault_text, limit_text, reply_details, reply_text};
+ghost use Rattle.transcript.specs.Reply.{reply_word, payload_text, message_start, message_head, message_text, agent_text, payload_fault_word, payload_fault_place, payload_fault_text, condition_fault_text, limit_text, reply_details, reply_text};
 ghost use Rattle.transcript.specs.Text.{Writes};
 
 use crate::record::{put_props, put_record};
-use crate::text::{Id, put_json, put_json_or_null, session_name};
+use crate::text::{
+    put_json, put_json_or_null, put_number, put_signed, put_spaced_id, session_name,
+};
 use payload_records::{List, Name, PayloadFault};
 use queue_rows::{
-    ConditionFault, GivenMessage, LimitName, MsgId, Reply, ServedAgent, SessionScript, Shown,
+    ConditionFault, GivenMessage, LimitName, Reply, ServedAgent, SessionScript, Shown,
 };
 use std::alloc::AllocError;
 
@@ -53,17 +55,25 @@ fn put_payload(out: &mut String, payload: &Option<Shown>) -> Result<(), AllocErr
     let Some(shown) = payload else {
         return Ok(());
     };
-    out.push_str(" ")?;
+    out.push(' ')?;
     put_record(out, shown)
+}
+
+fn put_message_start(out: &mut String, message: &GivenMessage) -> Result<(), AllocError>
+    ensures { OnOk result (Writes out.old out.new (message_start message.now)) }
+{
+    put_spaced_id(out, message.id)?;
+    out.push_str(" priority ")?;
+    put_signed(out, message.priority)?;
+    out.push_str(" retries ")?;
+    put_number(out, message.retries)
 }
 
 fn put_message_head(out: &mut String, message: &GivenMessage) -> Result<(), AllocError>
     ensures { OnOk result (Writes out.old out.new (message_head message.now)) }
 {
-    let id = Id(message.id);
-    let priority = message.priority;
-    let retries = message.retries;
-    write!(out, " {id} priority {priority} retries {retries} corr ")?;
+    put_message_start(out, message)?;
+    out.push_str(" corr ")?;
     put_json_or_null(out, &message.corr)?;
     put_payload(out, &message.payload)
 }
@@ -152,13 +162,6 @@ fn limit_text(name: LimitName) -> &'static str
     }
 }
 
-fn put_id(out: &mut String, id: MsgId) -> Result<(), AllocError>
-    ensures { OnOk result (Writes out.old out.new (enqueued_text id)) }
-{
-    let id = Id(id);
-    write!(out, " {id}")
-}
-
 fn put_details(
     out: &mut String,
     scripts: &List<SessionScript>,
@@ -167,7 +170,7 @@ fn put_details(
     ensures { OnOk result (Writes out.old out.new (reply_details scripts.now reply.now)) }
 {
     match reply {
-        Reply::Enqueued(id) => put_id(out, *id),
+        Reply::Enqueued(id) => put_spaced_id(out, *id),
         Reply::Message(message) => put_message(out, message.get()),
         Reply::Agent(agent) => put_agent(out, agent.get()),
         Reply::Held(session) => {

@@ -4,7 +4,7 @@ ghost use Rattle.rule_conditions.specs.Print.{print as rule_text};
 ghost use Rattle.transcript.specs.Rows.{db_word, database_head, database_tail, database_line, column_word, columns_text, table_line, queue_kind_word, queue_head, retries_part, queue_tail, queue_line, sub_head, sub_tail, sub_line, schedule_head, window_part, schedule_tail, schedule_line, seen_line};
 ghost use Rattle.transcript.specs.Text.{Writes, json_or_null};
 
-use crate::record::{comma_if, put_fields};
+use crate::record::{put_comma_if, put_fields};
 use crate::text::{Id, Slot, name_or_null, other_of, put_json, put_number_or_null, word_of};
 use aq_base::DbId;
 use payload_records::List;
@@ -61,7 +61,7 @@ fn put_columns(out: &mut String, columns: &List<Column>) -> Result<(), AllocErro
 {
     let mut later = false;
     for column in columns {
-        out.push_str(comma_if(later))?;
+        put_comma_if(out, later)?;
         out.push_str(column_word(*column))?;
         later = true;
     }

@@ -1,10 +1,12 @@
 // The parts of a line: ids, slots, sessions and texts as JSON.
-ghost use Rattle.std.specs.Prelude.{◌≡◌, OnOk, IfOk, option_map, Some, if◌then◌else◌};
+ghost use Rattle.std.specs.Prelude.{◌≡◌, ◌<◌, OnOk, IfOk, option_map, Some, decimal, if◌then◌else◌};
+ghost use Rattle.std.specs.Fmt.{signed_decimal};
 ghost use Rattle.std.specs.List.{list_all};
 ghost use Rattle.serde_json.specs.View.{view};
-ghost use Rattle.transcript.specs.Text.{Writes, letter_of, other_of, id_text, slot_text, is_plain, quoted_text, json_text, json_or_null, name_or_null, number_or_null, session_text};
+ghost use Rattle.transcript.specs.Text.{Writes, letter_of, other_of, id_text, spaced_id_text, slot_text, is_plain, quoted_text, json_text, json_or_null, name_or_null, number_or_null, session_text};
 
 use aq_base::DbId;
+use itoa::Buffer;
 use payload_records::{List, Name, Text};
 use queue_rows::{MsgId, SessionScript, SlotRef};
 use serde_json::Value;
@@ -73,6 +75,45 @@ impl From<SlotRef> for Slot {
     }
 }
 
+#[tactic(auto, using(std::proofs::lemmas::Fmt::decimal_digit))]
+fn put_digit(out: &mut String, digit: u8) -> Result<(), AllocError>
+    requires { digit < 10 }
+    ensures { OnOk result (Writes out.old out.new (decimal digit)) }
+{
+    out.push((b'0' + digit) as char)
+}
+
+/// Puts a number in.
+pub(crate) fn put_number(out: &mut String, number: u64) -> Result<(), AllocError>
+    ensures { OnOk result (Writes out.old out.new (decimal number)) }
+{
+    if number < 10 {
+        put_digit(out, number as u8)
+    } else {
+        out.push_str(Buffer::new().format(number))
+    }
+}
+
+/// Puts a number with a sign in.
+pub(crate) fn put_signed(out: &mut String, number: i64) -> Result<(), AllocError>
+    ensures { OnOk result (Writes out.old out.new (signed_decimal number)) }
+{
+    if number >= 0 {
+        put_number(out, number as u64)
+    } else {
+        out.push_str(Buffer::new().format(number))
+    }
+}
+
+/// Puts an id in, as ` h7`, behind a space.
+pub(crate) fn put_spaced_id(out: &mut String, id: MsgId) -> Result<(), AllocError>
+    ensures { OnOk result (Writes out.old out.new (spaced_id_text id.db id.number)) }
+{
+    out.push(' ')?;
+    out.push_str(letter_of(id.db))?;
+    put_number(out, id.number)
+}
+
 fn is_plain(text: &str) -> bool
     ensures { result ≡ list_all is_plain text.now }
 {
@@ -84,7 +125,9 @@ fn is_plain(text: &str) -> bool
 fn put_quoted(out: &mut String, text: &str) -> Result<(), AllocError>
     ensures { OnOk result (Writes out.old out.new (quoted_text text.now)) }
 {
-    write!(out, "\"{text}\"")
+    out.push('"')?;
+    out.push_str(text)?;
+    out.push('"')
 }
 
 fn put_escaped(out: &mut String, text: &str) -> Result<(), AllocError>
@@ -141,7 +184,7 @@ pub(crate) fn put_number_or_null(out: &mut String, number: Option<u64>) -> Resul
     ensures { OnOk result (Writes out.old out.new (number_or_null number)) }
 {
     match number {
-        Some(number) => write!(out, "{number}"),
+        Some(number) => put_number(out, number),
         None => out.push_str("null"),
     }
 }

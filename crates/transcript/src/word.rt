@@ -1,37 +1,38 @@
 // The word by which a script asks for a statement.
 ghost use Rattle.std.specs.Prelude.{◌≡◌};
-ghost use Rattle.transcript.specs.Word.{admin_word, statement_word};
+ghost use Rattle.transcript.specs.Word.{spaced, admin_word, statement_word};
 
 use queue_rows::{Admin, Statement};
 
-fn admin_word(ask: &Admin) -> &'static str
-    ensures { result.now ≡ admin_word ask.now }
+fn spaced_admin_word(ask: &Admin) -> &'static str
+    ensures { result.now ≡ spaced (admin_word ask.now) }
 {
     match ask {
-        Admin::CreateTable { .. } => "create-table",
-        Admin::DropTable { .. } => "drop-table",
-        Admin::CreateQueue { .. } => "create-queue",
-        Admin::DropQueue { .. } => "drop-queue",
-        Admin::StartQueue { .. } => "start-queue",
-        Admin::StopQueue { .. } => "stop-queue",
-        Admin::AddSubscriber { .. } => "add-subscriber",
-        Admin::RemoveSubscriber { .. } => "remove-subscriber",
-        Admin::Schedule { .. } => "schedule",
-        Admin::Unschedule { .. } => "unschedule",
-        Admin::EnableSchedule { .. } => "enable-schedule",
-        Admin::DisableSchedule { .. } => "disable-schedule",
+        Admin::CreateTable { .. } => " create-table ",
+        Admin::DropTable { .. } => " drop-table ",
+        Admin::CreateQueue { .. } => " create-queue ",
+        Admin::DropQueue { .. } => " drop-queue ",
+        Admin::StartQueue { .. } => " start-queue ",
+        Admin::StopQueue { .. } => " stop-queue ",
+        Admin::AddSubscriber { .. } => " add-subscriber ",
+        Admin::RemoveSubscriber { .. } => " remove-subscriber ",
+        Admin::Schedule { .. } => " schedule ",
+        Admin::Unschedule { .. } => " unschedule ",
+        Admin::EnableSchedule { .. } => " enable-schedule ",
+        Admin::DisableSchedule { .. } => " disable-schedule ",
     }
 }
 
-pub(crate) fn statement_word(statement: &Statement) -> &'static str
-    ensures { result.now ≡ statement_word statement.now }
+/// The word of a statement between two spaces.
+pub(crate) fn spaced_statement_word(statement: &Statement) -> &'static str
+    ensures { result.now ≡ spaced (statement_word statement.now) }
 {
     match statement {
-        Statement::Admin(ask) => admin_word(ask),
-        Statement::Enqueue(_) => "enqueue",
-        Statement::Dequeue(_) => "dequeue",
-        Statement::Listen(_) => "listen",
-        Statement::Commit => "commit",
-        Statement::Rollback => "rollback",
+        Statement::Admin(ask) => spaced_admin_word(ask),
+        Statement::Enqueue(_) => " enqueue ",
+        Statement::Dequeue(_) => " dequeue ",
+        Statement::Listen(_) => " listen ",
+        Statement::Commit => " commit ",
+        Statement::Rollback => " rollback ",
     }
 }
