@@ -5,6 +5,7 @@ pub mod EnteringLemmas
 pub mod EntryLemmas
 pub mod GroupLemmas
 pub mod GroupedLemmas
+pub mod HashLemmas
 pub mod HolderLemmas
 pub mod IndexLemmas
 pub mod LeavingLemmas

@@ -1,10 +1,11 @@
 -- How the index of slots follows the marks that are taken out.
-use Rattle.std.proofs.Common.{◌≡◌, ℕ, ◌+◌, ◌<◌, List, [], ◌∷◌, ◌++◌, take, length, Bool, true, false, cond, ◌||◌, Option, None, slice_index_or, nat_eq, refl, sym, ◌∙◌, ap}
+use Rattle.std.proofs.Common.{◌≡◌, ℕ, ◌+◌, ◌<◌, List, [], ◌∷◌, ◌++◌, take, length, Bool, true, false, cond, ◌||◌, Option, Some, None, slice_index_or, nat_eq, refl, sym, ◌∙◌, ap}
 use Rattle.std.proofs.lemmas.Bool.{and_parts, and_from, eqb-true, eq-eqb}
 use Rattle.std.proofs.lemmas.List.Folds.{list_any-append}
 use Rattle.std.proofs.lemmas.List.{take_more}
 use Rattle.slot_marks.specs.Marks.{is_on, has_slot}
-use Rattle.row_locks.specs.Entries.{is_same_slot}
+use Rattle.row_locks.specs.Entries.{is_same_slot, present}
+use Rattle.row_locks.proofs.IndexLemmas.{present_push_some, present_push_none}
 use Rattle.slot_marks.specs.declared.mark.Mark.{Mark}
 use Rattle.row_locks.specs.declared.slots.Hold.{Hold}
 
@@ -33,3 +34,22 @@ taken_next marks n mark i s had within is =
     or_false : (b : Bool) → b ≡ b || false
     or_false true = refl
     or_false false = refl
+
+-- one more entry is gone over, which has a mark
+pub present_some : (entries : List (Option Mark)) (n : ℕ) (entry : Option Mark) (mark : Mark) (i s : ℕ) (had : Option Hold) → n < length entries → entry ≡ slice_index_or entries n entry → entry ≡ Some mark
+    → cond (is_same_slot (mark.id, mark.slot) (i, s)) None (cond (has_slot i s (present (take n entries))) None had) ≡ cond (has_slot i s (present (take (n + 1) entries))) None had
+present_some entries n entry mark i s had within is some =
+    let more : present (take (n + 1) entries) ≡ present (take n entries) ++ mark ∷ [] = ap present (take_more entries n entry within ∙ ap (λ x. take n entries ++ x ∷ []) (sym is)) ∙ present_push_some (take n entries) entry mark some in
+    let any : has_slot i s (present (take (n + 1) entries)) ≡ has_slot i s (present (take n entries)) || (is_on i s mark || false) = ap (has_slot i s) more ∙ list_any-append (is_on i s) (present (take n entries)) (mark ∷ []) in
+    either (has_slot i s (present (take n entries))) (is_on i s mark) None had
+    ∙ ap (λ b. cond (has_slot i s (present (take n entries)) || b) None had) (or_no (is_on i s mark))
+    ∙ ap (λ b. cond b None had) (sym any)
+  where
+    or_no : (b : Bool) → b ≡ b || false
+    or_no true = refl
+    or_no false = refl
+
+-- or none
+pub present_none : (entries : List (Option Mark)) (n : ℕ) (entry : Option Mark) → n < length entries → entry ≡ slice_index_or entries n entry → entry ≡ None
+    → present (take (n + 1) entries) ≡ present (take n entries)
+present_none entries n entry within is none = ap present (take_more entries n entry within ∙ ap (λ x. take n entries ++ x ∷ []) (sym is)) ∙ present_push_none (take n entries) entry none

@@ -1,4 +1,5 @@
 pub mod Changes
 pub mod Entries
 pub mod Groups
+pub mod Hashing
 pub mod Slots

@@ -4,8 +4,10 @@ ghost use Rattle.std.specs.Option.{option_map, option_map_or};
 ghost use Rattle.row_locks.specs.Changes.{SameValues, SetsValue, SetsAt};
 ghost use Rattle.row_locks.specs.Groups.{cell_of, place_of, count_of, mixed_of, last_rank, taking_over, class_room, PutsPlace, TakesRank, CountsOneMore, CountsOneLess, Mixes, KeepsMixed, IsDense};
 
+use crate::hashing::NumberHasher;
 use std::alloc::{AllocError, Global};
 use std::collections::HashMap;
+use std::hash::BuildHasherDefault;
 
 /// Where a mark stands.
 #[derive(Clone, Copy, Debug, PartialEq, Eq)]
@@ -41,7 +43,7 @@ pub(crate) struct FirstMark {
 /// compares those of a mark.
 #[derive(Drop)]
 pub(crate) struct ClassIndex {
-    cells: HashMap<(u64, usize), ClassCell>,
+    cells: HashMap<(u64, usize), ClassCell, BuildHasherDefault<NumberHasher>>,
 }
 
 impl ClassIndex {
@@ -51,7 +53,7 @@ impl ClassIndex {
         ensures counts { (names : ℕ) → count_of result names ≡ 0 }
     {
         ClassIndex {
-            cells: HashMap::new(alloc),
+            cells: HashMap::with_hasher(alloc, BuildHasherDefault::new()),
         }
     }
 

@@ -5,8 +5,10 @@ ghost use Rattle.row_locks.specs.Changes.{SameValues};
 ghost use Rattle.row_locks.specs.Groups.{hold_at, block_hold, block_of, hold_in, key_hold, hold_room, held_count, counted_out, SetsHold, CountsIn, CountsOut};
 
 use crate::groups::GroupKey;
+use crate::hashing::NumberHasher;
 use std::alloc::{AllocError, Global};
 use std::collections::HashMap;
+use std::hash::BuildHasherDefault;
 
 /// How many neighbouring numbers stand together.
 const BLOCK: u64 = 16;
@@ -33,7 +35,7 @@ pub(crate) struct GroupBlock {
 /// together, since sessions mostly touch groups in the order of their numbers.
 #[derive(Drop)]
 pub(crate) struct GroupHolds {
-    blocks: HashMap<(u64, u64), GroupBlock>,
+    blocks: HashMap<(u64, u64), GroupBlock, BuildHasherDefault<NumberHasher>>,
 }
 
 impl GroupHolds {
@@ -42,7 +44,7 @@ impl GroupHolds {
         ensures { (number names : ℕ) → hold_in result number names ≡ None }
     {
         GroupHolds {
-            blocks: HashMap::new(alloc),
+            blocks: HashMap::with_hasher(alloc, BuildHasherDefault::new()),
         }
     }
 

@@ -4,6 +4,7 @@
 mod classes;
 mod entries;
 mod groups;
+mod hashing;
 mod holds;
 mod locks;
 mod marks;

@@ -11,8 +11,8 @@ use crate::marks::Marks;
 use crate::session_table::SessionTable;
 use crate::slots::SlotIndex;
 use crate::tables::{
-    find_holder, keep_at, leave_group, leave_groups, prepare, put_at, release_all_at, release_at,
-    reserve_at, spare_at,
+    find_holder, free_all_at, keep_at, leave_group, leave_groups, prepare, put_at, release_all_at,
+    release_at, reserve_at, spare_at,
 };
 use payload_records::{List, Name};
 use slot_marks::{Group, Mark};
@@ -212,6 +212,19 @@ impl RowLocks {
             release_all_at(&mut self.sessions, &mut self.slots, session as usize)
         } else {
             List::new(self.alloc)
+        }
+    }
+
+    /// Frees all marks of the session. It takes no memory. No room stays reserved for the session.
+    pub fn free_all(&mut self, session: u32)
+        ensures none { marks_of self.new session ≡ [] }
+        ensures room { spare_of self.new session ≡ 0 }
+        ensures rest { ChangesOnly self.old self.new session }
+    {
+        if (session as usize) < self.sessions.len() {
+            self.spare -= spare_at(&self.sessions, session as usize);
+            leave_groups(&mut self.sessions, &mut self.groups, session);
+            free_all_at(&mut self.sessions, &mut self.slots, session as usize);
         }
     }
 

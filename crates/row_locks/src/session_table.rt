@@ -13,6 +13,9 @@ use std::alloc::{AllocError, Global};
 use std::marker::Model;
 use std::mem;
 
+/// The memory of so many marks is kept when they are freed.
+const FEW: usize = 16;
+
 /// The marks of one session in the order taken, with room for more. A mark stays at its place until all are freed, and its
 /// rank in the index by group, where that has it, stands at the same place.
 pub(crate) struct SessionTable {
@@ -167,6 +170,26 @@ impl SessionTable {
         ensures { self.new ≡ with_entry self.old at None }
     {
         self.entries[at] = None;
+    }
+
+    /// The marks by their places.
+    pub(crate) fn entries(&self) -> &[Option<Mark>]
+        ensures { result.now ≡ self.now.entries }
+    {
+        self.entries.as_slice()
+    }
+
+    /// Drops all marks. It takes no memory. What few marks took of it is kept for the next ones.
+    pub(crate) fn empty(&mut self)
+        ensures { self.new ≡ no_entries }
+    {
+        if self.entries.capacity() > FEW {
+            *self = SessionTable::new(*self.entries.allocator());
+            return;
+        }
+        self.entries.clear();
+        self.ranks.clear();
+        self.spare = 0;
     }
 
     /// Takes all marks out, in their order. It takes no memory.

@@ -1,12 +1,15 @@
 // The index of the marks of all sessions by their slots.
-ghost use Rattle.std.specs.Prelude.{◌≡◌, ◌<◌, ◌≤◌, ◌+◌, ◌/◌, ◌%◌, ℕ, Some, None, IsSome, IfSome, IfNone, OnOk, true, false, ◌==◌, ◌&&◌, if◌then◌else◌, length, slice_index_or, slice_set};
+ghost use Rattle.std.specs.Prelude.{◌≡◌, ◌<◌, ◌≤◌, ◌+◌, ◌/◌, ◌%◌, ℕ, Some, None, is_some, IsSome, IfSome, IfNone, OnOk, true, false, ◌==◌, ◌&&◌, if◌then◌else◌, length, slice_index_or, slice_set};
 ghost use Rattle.slot_marks.specs.Marks.{has_slot};
 ghost use Rattle.row_locks.specs.Changes.{SameValues, SetsValue};
+ghost use Rattle.row_locks.specs.Entries.{present};
 ghost use Rattle.row_locks.specs.Slots.{hold_of, room_of, cell, block_at, is_held_by, is_removed_by};
 
+use crate::hashing::NumberHasher;
 use slot_marks::Mark;
 use std::alloc::{AllocError, Global};
 use std::collections::HashMap;
+use std::hash::BuildHasherDefault;
 
 /// How many neighbouring ids stand together.
 const BLOCK: u64 = 16;
@@ -26,7 +29,7 @@ pub(crate) struct Hold {
 /// together, since sessions mostly touch messages in the order of their ids.
 #[derive(Drop)]
 pub(crate) struct SlotIndex {
-    blocks: HashMap<(u64, u32), [Option<Hold>; 16]>,
+    blocks: HashMap<(u64, u32), [Option<Hold>; 16], BuildHasherDefault<NumberHasher>>,
 }
 
 impl SlotIndex {
@@ -35,7 +38,7 @@ impl SlotIndex {
         ensures { (id slot : ℕ) → hold_of result id slot ≡ None }
     {
         SlotIndex {
-            blocks: HashMap::new(alloc),
+            blocks: HashMap::with_hasher(alloc, BuildHasherDefault::new()),
         }
     }
 
@@ -98,10 +101,10 @@ impl SlotIndex {
         ensures holds { SetsValue (hold_of self.old) (hold_of self.new) id slot (Some hold) }
         ensures room { room_of self.old ≤ room_of self.new + 1 }
     {
-        if !self.blocks.contains_key(&(id / BLOCK, slot)) {
+        if !self.write(id, slot, Some(hold)) {
             self.begin(id, slot);
+            self.write(id, slot, Some(hold));
         }
-        self.write(id, slot, Some(hold));
     }
 
     fn begin(&mut self, id: u64, slot: u32)
@@ -116,13 +119,20 @@ impl SlotIndex {
         };
     }
 
-    fn write(&mut self, id: u64, slot: u32, hold: Option<Hold>)
-        requires there { IsSome (block_at self.old id slot) }
-        ensures holds { SetsValue (hold_of self.old) (hold_of self.new) id slot hold }
+    // Writes what is told of a slot, where its block is there, and says whether it is.
+    fn write(&mut self, id: u64, slot: u32, hold: Option<Hold>) -> bool
+        ensures there { result ≡ is_some (block_at self.old id slot) }
+        ensures holds { result ≡ true → SetsValue (hold_of self.old) (hold_of self.new) id slot hold }
+        ensures absent { result ≡ false → block_at self.new id slot ≡ None }
+        ensures same { result ≡ false → SameValues (hold_of self.old) (hold_of self.new) }
         ensures room { room_of self.new ≡ room_of self.old }
     {
-        if let Some(holds) = self.blocks.get_mut(&(id / BLOCK, slot)) {
-            set_cell(holds, (id % BLOCK) as usize, hold);
+        match self.blocks.get_mut(&(id / BLOCK, slot)) {
+            None => false,
+            Some(holds) => {
+                set_cell(holds, (id % BLOCK) as usize, hold);
+                true
+            }
         }
     }
 
@@ -140,10 +150,29 @@ impl SlotIndex {
         ensures holds { SetsValue (hold_of self.old) (hold_of self.new) id slot None }
         ensures room { room_of self.old ≤ room_of self.new }
     {
-        if self.blocks.contains_key(&(id / BLOCK, slot)) {
-            self.write(id, slot, None);
-            self.end_empty(id, slot);
+        if self.clear(id, slot) {
+            self.end(id, slot);
         }
+    }
+
+    // Takes the mark on a slot out of its block, and says whether the block is empty then.
+    fn clear(&mut self, id: u64, slot: u32) -> bool
+        ensures holds { SetsValue (hold_of self.old) (hold_of self.new) id slot None }
+        ensures empty { result ≡ true → (at : ℕ) → cell (block_at self.new id slot) at ≡ None }
+        ensures room { room_of self.new ≡ room_of self.old }
+    {
+        match self.blocks.get_mut(&(id / BLOCK, slot)) {
+            None => false,
+            Some(holds) => clear_cell(holds, (id % BLOCK) as usize),
+        }
+    }
+
+    fn end(&mut self, id: u64, slot: u32)
+        requires empty { (at : ℕ) → cell (block_at self.old id slot) at ≡ None }
+        ensures holds { SameValues (hold_of self.old) (hold_of self.new) }
+        ensures room { room_of self.old ≤ room_of self.new }
+    {
+        self.blocks.remove(&(id / BLOCK, slot));
     }
 
     /// Takes the marks on all those slots out. It takes no memory.
@@ -157,21 +186,16 @@ impl SlotIndex {
         }
     }
 
-    fn end_empty(&mut self, id: u64, slot: u32)
-        ensures holds { SameValues (hold_of self.old) (hold_of self.new) }
+    /// Takes the marks that are present on all those slots out. It takes no memory.
+    pub(crate) fn take_present(&mut self, entries: &[Option<Mark>])
+        ensures holds { (i s : ℕ) → hold_of self.new i s
+            ≡ (if has_slot i s (present entries.now) then None else hold_of self.old i s) }
         ensures room { room_of self.old ≤ room_of self.new }
     {
-        if self.is_empty_block(id, slot) {
-            self.blocks.remove(&(id / BLOCK, slot));
-        }
-    }
-
-    fn is_empty_block(&self, id: u64, slot: u32) -> bool
-        ensures { result ≡ true → (at : ℕ) → cell (block_at self.now id slot) at ≡ None }
-    {
-        match self.blocks.get(&(id / BLOCK, slot)) {
-            None => false,
-            Some(holds) => holds.iter().all(|hold| hold.is_none()),
+        for entry in entries {
+            if let Some(mark) = entry {
+                self.take(mark.id, mark.slot);
+            }
         }
     }
 }
@@ -182,4 +206,14 @@ fn set_cell(holds: &mut [Option<Hold>; 16], at: usize, hold: Option<Hold>)
     ensures whole { length holds.old ≡ 16 }
 {
     holds[at] = hold;
+}
+
+fn clear_cell(holds: &mut [Option<Hold>; 16], at: usize) -> bool
+    requires { at < 16 }
+    ensures set { holds.new ≡ slice_set holds.old at None }
+    ensures whole { length holds.old ≡ 16 }
+    ensures empty { result ≡ true → (n : ℕ) → slice_index_or holds.new n None ≡ None }
+{
+    set_cell(holds, at, None);
+    holds.iter().all(|hold| hold.is_none())
 }

@@ -245,6 +245,18 @@ pub(crate) fn release_all_at(
     List::from_vec(marks)
 }
 
+/// Drops all marks of the session.
+pub(crate) fn free_all_at(tables: &mut Vec<SessionTable>, slots: &mut SlotIndex, at: usize)
+    requires there { at < length tables.old.items }
+    requires index { IsSlotIndex tables.old.items (hold_of slots.old) }
+    ensures none { tables.new.items ≡ slice_set tables.old.items at no_entries }
+    ensures index { IsSlotIndex tables.new.items (hold_of slots.new) }
+    ensures room { room_of slots.old ≤ room_of slots.new }
+{
+    slots.take_present(entries_at(tables, at));
+    empty_at(tables, at);
+}
+
 /// Takes the mark at a place out of the index of groups, and leaves it where it stands.
 pub(crate) fn leave_group(tables: &mut Vec<SessionTable>, groups: &mut GroupIndex, place: Place)
     requires there { place.session < length tables.old.items }
@@ -313,6 +325,20 @@ fn take_all_at(tables: &mut Vec<SessionTable>, at: usize) -> Vec<Mark>
     ensures none { tables.new.items ≡ slice_set tables.old.items at no_entries }
 {
     tables[at].release_all()
+}
+
+fn entries_at(tables: &Vec<SessionTable>, at: usize) -> &[Option<Mark>]
+    requires { at < length tables.now.items }
+    ensures { result.now ≡ entries_of tables.now.items at }
+{
+    tables[at].entries()
+}
+
+fn empty_at(tables: &mut Vec<SessionTable>, at: usize)
+    requires { at < length tables.old.items }
+    ensures { tables.new.items ≡ slice_set tables.old.items at no_entries }
+{
+    tables[at].empty();
 }
 
 fn len_at(tables: &Vec<SessionTable>, at: usize) -> u32

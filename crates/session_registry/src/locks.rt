@@ -91,10 +91,9 @@ impl Locks {
     pub fn release_all(&mut self, db: DbId, session: u32)
         ensures { ChangesMarks db session [] self.old self.new }
     {
-        let marks = match db {
-            DbId::Home => self.home.release_all(session),
-            DbId::Away => self.away.release_all(session),
-        };
-        drop(marks);
+        match db {
+            DbId::Home => self.home.free_all(session),
+            DbId::Away => self.away.free_all(session),
+        }
     }
 }
