@@ -13,7 +13,7 @@ use Rattle.row_tree.specs.Changes.{change_where, set_in_order}
 use Rattle.row_tree.specs.Edits.{edit_at}
 use Rattle.row_tree.specs.Free.{none_at}
 use Rattle.row_tree.specs.Order.{IsBeforeAll, IsRising, less_by}
-use Rattle.row_tree.specs.Split.{NonePass}
+use Rattle.row_tree.specs.Split.{IsSplit, NonePass}
 use Rattle.row_tree.proofs.Edited.{edit_later}
 use Rattle.row_tree.proofs.Rising.{all_kept, fails_after, none_after, rising_kept, rising_put}
 use Rattle.row_tree.proofs.Places.{put_there}
@@ -141,3 +141,42 @@ pub told_there : {T U : Type 0} (p : T → Bool) (tells : T → U) (told : U) (f
     → option_map tells found ≡ Some told
 told_there p tells told None there is = cc there
 told_there p tells told (Some row) there is = ap Some (sym is)
+
+-- ---- what stands first, and last
+
+pub none_ahead : {T : Type 0} (standing : T → Ordering) (xs : List T) (x : T) → slice_get xs 0 ≡ Some x → is_eq (standing x) ≡ true → 0 ≡ prefix_len (λ y. is_lt (standing y)) xs
+none_ahead standing [] x first at = cc first
+none_ahead {T} standing (y ∷ ys) x first at =
+    let same : y ≡ x = cc first in
+    let n = prefix_len (λ z. is_lt (standing z)) ys in
+    let P : Ordering → Type 0 = λ o. is_eq o ≡ true → 0 ≡ cond (is_lt o) (1 + n) 0 in
+    (elim (standing y) as P [ Less ↦ λ e. cc e | Equal ↦ λ e. refl | Greater ↦ λ e. refl ]) (ap (λ z. is_eq (standing z)) same ∙ at)
+
+fails_there : {T : Type 0} (p : T → Bool) (xs : List T) (i : ℕ) (x : T) → NonePass p xs → slice_get xs i ≡ Some x → p x ≡ false
+fails_there p [] i x none there = cc there
+fails_there p (y ∷ ys) zero x none there = let same : y ≡ x = cc there in ap p (sym same) ∙ none.0
+fails_there p (y ∷ ys) (suc i) x none there = fails_there p ys i x none.1 there
+
+pub all_ahead : {T : Type 0} (p : T → Bool) (xs : List T) (i : ℕ) (x : T) → IsSplit p xs → slice_get xs i ≡ Some x → p x ≡ true → length xs ≡ i + 1 → length xs ≡ prefix_len p xs
+all_ahead p [] i x split there passes last = cc there
+all_ahead p (y ∷ []) zero x split there passes last =
+    let same : y ≡ x = cc there in
+    ap (λ b. cond b 1 0) (sym (ap p same ∙ passes))
+all_ahead p (y ∷ z ∷ zs) zero x split there passes last = absurd (omega arith)
+all_ahead {T} p (y ∷ ys) (suc i) x split there passes last =
+    let rest : length ys ≡ prefix_len p ys = all_ahead p ys i x split.1 there passes (omega arith) in
+    let n = prefix_len p ys in
+    let P : Bool → Type 0 = λ b. p y ≡ b → length (y ∷ ys) ≡ cond b (1 + n) 0 in
+    elim (p y) as P [
+      | true ↦ λ e. omega arith
+      | false ↦ λ e. let fails = fails_there p ys i x (split.0 e) there in let both : true ≡ false = sym passes ∙ fails in cc both
+    ] refl
+
+pub none_past : {T : Type 0} (xs : List T) → slice_get xs (length xs) ≡ None
+none_past [] = refl
+none_past (x ∷ xs) = none_past xs
+
+pub got_within : {T : Type 0} (xs : List T) (i : ℕ) (x : T) → slice_get xs i ≡ Some x → i < length xs
+got_within [] i x there = cc there
+got_within (y ∷ ys) zero x there = omega arith
+got_within (y ∷ ys) (suc i) x there = let more = got_within ys i x there in omega arith

@@ -14,7 +14,8 @@ impl<T: InOrder> Tree<T> {
     pub(crate) fn seat<B: Bound<T>>(&self, bound: &B) -> (usize, bool)
         requires { IsSplit (is_before (B.standing bound.now)) self.now }
         ensures rank { result.0 ≡ prefix_len (is_before (B.standing bound.now)) self.now }
-        ensures at { result.1 ≡ option_map_or (is_at (B.standing bound.now)) (slice_get self.now result.0) false }
+        ensures at { result.1 ≡
+            option_map_or (is_at (B.standing bound.now)) (slice_get self.now result.0) false }
     {
         let _most = self.len();
         let Some(fork) = &self.root else {
@@ -33,6 +34,38 @@ impl<T: InOrder> Tree<T> {
         } else {
             (at, standing.is_eq())
         }
+    }
+}
+
+impl<T: InOrder> Tree<T> {
+    // The same, where the first row is looked at before all others, as one that is taken out mostly stands first.
+    pub(crate) fn seat_from_first<B: Bound<T>>(&self, bound: &B) -> (usize, bool)
+        requires { IsSplit (is_before (B.standing bound.now)) self.now }
+        ensures rank { result.0 ≡ prefix_len (is_before (B.standing bound.now)) self.now }
+        ensures at { result.1 ≡
+            option_map_or (is_at (B.standing bound.now)) (slice_get self.now result.0) false }
+    {
+        if let Some(first) = self.get(0) {
+            if bound.standing(first).is_eq() {
+                return (0, true);
+            }
+        }
+        self.seat(bound)
+    }
+
+    // The same, where the last row is looked at before all others, as one that is put in mostly comes last.
+    pub(crate) fn seat_from_last<B: Bound<T>>(&self, bound: &B) -> (usize, bool)
+        requires { IsSplit (is_before (B.standing bound.now)) self.now }
+        ensures rank { result.0 ≡ prefix_len (is_before (B.standing bound.now)) self.now }
+        ensures at { result.1 ≡
+            option_map_or (is_at (B.standing bound.now)) (slice_get self.now result.0) false }
+    {
+        if let Some(last) = self.get(self.len().saturating_sub(1)) {
+            if bound.standing(last).is_lt() {
+                return (self.len(), false);
+            }
+        }
+        self.seat(bound)
     }
 }
 

@@ -10,13 +10,13 @@ use Rattle.row_tree.proofs.Taking.{takes, leaves}
 use Rattle.row_tree.proofs.ordered.Ordered.set.Goals as goal
 use Rattle.row_tree.proofs.ordered.Ordered.set.Goals.{then-is_there, else-is_there}
 
-pub seat-at-requires : goal.seat-at-requires
-seat-at-requires g c =
+pub seat_from_last-at-requires : goal.seat_from_last-at-requires
+seat_from_last-at-requires g c =
     split_from_rising (λ x. g.T.InOrder.order x c.args.row) (λ x y. less_by g.met.T.InOrder.total x y c.args.row) c.self.inside.tree c.self.invariant
 
 pub remove-replaced-requires : goal.remove-replaced-requires
 remove-replaced-requires g c =
-    let t = takes (λ x. g.T.InOrder.order x c.args.row) (λ x y. less_by g.met.T.InOrder.total x y c.args.row) c.self.inside.tree c.self.invariant c.seat-at.result.0 c.seat-at.ensures.rank (sym c.seat-at.ensures.at ∙ c.if-is_there.true) in
+    let t = takes (λ x. g.T.InOrder.order x c.args.row) (λ x y. less_by g.met.T.InOrder.total x y c.args.row) c.self.inside.tree c.self.invariant c.seat_from_last-at.result.0 c.seat_from_last-at.ensures.rank (sym c.seat_from_last-at.ensures.at ∙ c.if-is_there.true) in
     omega (arith, t.within)
 
 pub insert-requires-clause-within : goal.insert-requires-clause-within
@@ -27,17 +27,17 @@ insert-requires-clause-within g c =
     let tree = c.self.inside.tree in
     let standing : g.row.T.Denot → Ordering = λ x. order x row in
     let falls = λ (x y : g.row.T.Denot). less_by total x y row in
-    let at = c.seat-at.result.0 in
+    let at = c.seat_from_last-at.result.0 in
     let kept : c.if-is_there.self-inside.tree ≡ filter (λ y. not (is_eq (order y row))) tree =
     elim c.if-is_there.branch [
       | then-is_there w ↦
-          let t = takes standing falls tree c.self.invariant at c.seat-at.ensures.rank (sym c.seat-at.ensures.at ∙ w.if-is_there.true) in
+          let t = takes standing falls tree c.self.invariant at c.seat_from_last-at.ensures.rank (sym c.seat_from_last-at.ensures.at ∙ w.if-is_there.true) in
           ap (λ (s : Inside g.row.T.Denot). s.tree) w.self-inside-is ∙ w.remove-replaced.ensures.rest ∙ t.rest
       | else-is_there w ↦
-          let t = leaves standing falls tree c.self.invariant at c.seat-at.ensures.rank (sym c.seat-at.ensures.at ∙ w.if-is_there.false) in
+          let t = leaves standing falls tree c.self.invariant at c.seat_from_last-at.ensures.rank (sym c.seat_from_last-at.ensures.at ∙ w.if-is_there.false) in
           ap (λ (s : Inside g.row.T.Denot). s.tree) w.self-inside-is ∙ sym t.rest
     ] in
-    set_within total row tree c.self.invariant at c.if-is_there.self-inside.tree c.seat-at.ensures.rank kept
+    set_within total row tree c.self.invariant at c.if-is_there.self-inside.tree c.seat_from_last-at.ensures.rank kept
 
 pub returns-clause-rows : goal.returns-clause-rows
 returns-clause-rows g c =
@@ -47,17 +47,17 @@ returns-clause-rows g c =
     let tree = c.self.inside.tree in
     let standing : g.row.T.Denot → Ordering = λ x. order x row in
     let falls = λ (x y : g.row.T.Denot). less_by total x y row in
-    let at = c.seat-at.result.0 in
+    let at = c.seat_from_last-at.result.0 in
     let kept : c.if-is_there.self-inside.tree ≡ filter (λ y. not (is_eq (order y row))) tree =
     elim c.if-is_there.branch [
       | then-is_there w ↦
-          let t = takes standing falls tree c.self.invariant at c.seat-at.ensures.rank (sym c.seat-at.ensures.at ∙ w.if-is_there.true) in
+          let t = takes standing falls tree c.self.invariant at c.seat_from_last-at.ensures.rank (sym c.seat_from_last-at.ensures.at ∙ w.if-is_there.true) in
           ap (λ (s : Inside g.row.T.Denot). s.tree) w.self-inside-is ∙ w.remove-replaced.ensures.rest ∙ t.rest
       | else-is_there w ↦
-          let t = leaves standing falls tree c.self.invariant at c.seat-at.ensures.rank (sym c.seat-at.ensures.at ∙ w.if-is_there.false) in
+          let t = leaves standing falls tree c.self.invariant at c.seat_from_last-at.ensures.rank (sym c.seat_from_last-at.ensures.at ∙ w.if-is_there.false) in
           ap (λ (s : Inside g.row.T.Denot). s.tree) w.self-inside-is ∙ sym t.rest
     ] in
-    c.insert.ensures ∙ set_there total row tree c.self.invariant at c.if-is_there.self-inside.tree c.seat-at.ensures.rank kept ∙ ap (set_in_order order row) c.self.view_is
+    c.insert.ensures ∙ set_there total row tree c.self.invariant at c.if-is_there.self-inside.tree c.seat_from_last-at.ensures.rank kept ∙ ap (set_in_order order row) c.self.view_is
 
 pub returns-clause-rising : goal.returns-clause-rising
 returns-clause-rising g c =
