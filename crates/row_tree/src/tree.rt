@@ -192,14 +192,25 @@ impl<T: Drop> Tree<T> {
         requires fits { length self.old < usize.MAX }
         ensures { self.new ≡ insert self.old at row }
     {
+        self.insert_fork(at, filled(spare, row));
+    }
+
+    // Puts the row of a fork in, which goes down in its place: rows may be large.
+    fn insert_fork(&mut self, at: usize, inserted: Box<Fork<T>>)
+        requires within { at ≤ length self.old }
+        requires fits { length self.old < usize.MAX }
+        requires row { IsSome inserted.value.row }
+        ensures rows { (row : T) → inserted.value.row ≡ Some row → self.new ≡ insert self.old at row }
+        ensures len { length self.new ≡ length self.old + 1 }
+    {
         match &mut self.root {
-            None => *self = hang(filled(spare, row), Tree::new(), Tree::new()),
+            None => *self = hang(inserted, Tree::new(), Tree::new()),
             Some(fork) => {
                 let before = fork.left.len();
                 if at <= before {
-                    fork.left.insert(at, row, spare);
+                    fork.left.insert_fork(at, inserted);
                 } else {
-                    fork.right.insert(at - before - 1, row, spare);
+                    fork.right.insert_fork(at - before - 1, inserted);
                 }
                 self.count += 1;
                 self.balance();
@@ -225,10 +236,19 @@ impl<T: Drop> Tree<T> {
         requires { length self.old < usize.MAX }
         ensures { self.new ≡ self.old ++ row ∷ [] }
     {
+        self.push_fork(filled(spare, row));
+    }
+
+    // Puts the row of a fork at the end.
+    fn push_fork(&mut self, pushed: Box<Fork<T>>)
+        requires fits { length self.old < usize.MAX }
+        requires row { IsSome pushed.value.row }
+        ensures { self.new ≡ self.old ++ option_to_list pushed.value.row }
+    {
         match &mut self.root {
-            None => *self = hang(filled(spare, row), Tree::new(), Tree::new()),
+            None => *self = hang(pushed, Tree::new(), Tree::new()),
             Some(fork) => {
-                fork.right.push(row, spare);
+                fork.right.push_fork(pushed);
                 self.count += 1;
                 self.balance();
             }
