@@ -29,19 +29,21 @@ remove_right xs l r (Some k) at some is after =
     let outer = remove-append_right l (k ∷ r) (length l) at refl (omega arith) in
     rw is (ap (λ ys. l ++ ys) (sym inner) ∙ sym outer)
 
-pub remove_root : {T : Type 0} (xs l r : List T) (row : Option T) (k : T) (at : ℕ) → row ≡ Some k → xs ≡ l ++ (option_to_list row ++ r) → at ≡ length l
+pub remove_root : {T : Type 0} (xs l r : List T) (row : Option T) (at : ℕ) → IsSome row → xs ≡ l ++ (option_to_list row ++ r) → at ≡ length l
     → l ++ r ≡ remove xs at
-remove_root xs l r row k at some is here =
+remove_root xs l r None at some is here = cc some
+remove_root xs l r (Some k) at some is here =
     let outer = remove-append_right l (k ∷ r) (length l) at refl (omega arith) in
     let none : at - length l ≡ 0 = omega arith in
-    rw (is, some) (sym (outer ∙ ap (λ n. l ++ remove (k ∷ r) n) none))
+    rw is (sym (outer ∙ ap (λ n. l ++ remove (k ∷ r) n) none))
 
-pub get_root : {T : Type 0} (xs l r : List T) (row : Option T) (k : T) (at : ℕ) → row ≡ Some k → xs ≡ l ++ (option_to_list row ++ r) → at ≡ length l
-    → slice_get xs at ≡ Some k
-get_root xs l r row k at some is here =
+pub get_root : {T : Type 0} (xs l r : List T) (row : Option T) (at : ℕ) → IsSome row → xs ≡ l ++ (option_to_list row ++ r) → at ≡ length l
+    → slice_get xs at ≡ row
+get_root xs l r None at some is here = cc some
+get_root xs l r (Some k) at some is here =
     let long = length-append l (k ∷ r) in
     let within : at < length (l ++ (k ∷ r)) = omega arith in
-    rw (is, some) (slice_get-get_or (l ++ (k ∷ r)) at k within ∙ ap Some (get_or_at l k r k at (sym here)))
+    rw is (slice_get-get_or (l ++ (k ∷ r)) at k within ∙ ap Some (get_or_at l k r k at (sym here)))
 
 get_append_left : {T : Type 0} (l r : List T) (at : ℕ) (x : T) → slice_get l at ≡ Some x → slice_get (l ++ r) at ≡ Some x
 get_append_left [] r at x there = cc there
@@ -54,13 +56,15 @@ get_append_right (y ∷ ys) r i =
     let e : length (y ∷ ys) + i ≡ suc (length ys + i) = omega arith in
     ap (slice_get (y ∷ ys ++ r)) e ∙ get_append_right ys r i
 
-pub get_left : {T : Type 0} (xs l r : List T) (row : Option T) (at : ℕ) (x : T) → xs ≡ l ++ (option_to_list row ++ r) → slice_get l at ≡ Some x → slice_get xs at ≡ Some x
-get_left xs l r row at x is there = rw is (get_append_left l (option_to_list row ++ r) at x there)
+pub get_left : {T : Type 0} (xs l r : List T) (row : Option T) (at : ℕ) (got : Option T) → IsSome got → xs ≡ l ++ (option_to_list row ++ r)
+    → slice_get l at ≡ got → slice_get xs at ≡ got
+get_left xs l r row at None some is there = cc some
+get_left xs l r row at (Some x) some is there = rw is (get_append_left l (option_to_list row ++ r) at x there)
 
-pub get_right : {T : Type 0} (xs l r : List T) (row : Option T) (at : ℕ) (x : T) → IsSome row → xs ≡ l ++ (option_to_list row ++ r) → length l < at
-    → slice_get r (at - length l - 1) ≡ Some x → slice_get xs at ≡ Some x
-get_right xs l r None at x some is past there = cc some
-get_right xs l r (Some k) at x some is past there =
+pub get_right : {T : Type 0} (xs l r : List T) (row : Option T) (at : ℕ) (got : Option T) → IsSome row → xs ≡ l ++ (option_to_list row ++ r) → length l < at
+    → slice_get r (at - length l - 1) ≡ got → slice_get xs at ≡ got
+get_right xs l r None at got some is past there = cc some
+get_right xs l r (Some k) at got some is past there =
     let i = at - length l - 1 in
     let e : at ≡ length l + suc i = omega arith in
     rw is (ap (slice_get (l ++ (k ∷ r))) e ∙ get_append_right l (k ∷ r) (suc i) ∙ there)

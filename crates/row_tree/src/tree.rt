@@ -284,25 +284,36 @@ impl<T: Drop> Tree<T> {
         ensures row { slice_get self.old at ≡ Some result.0 }
         ensures rest { self.new ≡ remove self.old at }
     {
+        let mut fork = self.remove_fork(at);
+        let Some(row) = fork.row.take() else {
+            unreachable!()
+        };
+        (row, Spare { fork })
+    }
+
+    // Takes the fork of the row at an index out, with its row: rows may be large.
+    fn remove_fork(&mut self, at: usize) -> Box<Fork<T>>
+        requires { at < length self.old }
+        ensures row { slice_get self.old at ≡ result.value.row }
+        ensures some { IsSome result.value.row }
+        ensures rest { self.new ≡ remove self.old at }
+    {
         let Some(fork) = &mut self.root else {
             unreachable!()
         };
         let before = fork.left.len();
         let removed = if at < before {
-            fork.left.remove(at)
+            fork.left.remove_fork(at)
         } else if at > before {
-            fork.right.remove(at - before - 1)
+            fork.right.remove_fork(at - before - 1)
         } else {
             let Some(mut fork) = self.root.take() else {
                 unreachable!()
             };
             let left = mem::replace(&mut fork.left, Tree::new());
             let right = mem::replace(&mut fork.right, Tree::new());
-            let Some(row) = fork.row.take() else {
-                unreachable!()
-            };
             *self = glue(left, right);
-            return (row, Spare { fork });
+            return fork;
         };
         self.count -= 1;
         self.balance();
