@@ -1,3 +1,4 @@
 pub mod Groups
 pub mod Places
 pub mod Stamps
+pub mod Walks

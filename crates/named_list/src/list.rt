@@ -218,7 +218,13 @@ fn first_among<'a, T: Named, S: Sought<T>>(items: Of<'a, '_, T>, sought: &S) -> 
 fn found_by_walk<'a, T: Named, S: Sought<T>>(items: &'a Tree<T>, sought: &S) -> Option<&'a T>
     ensures { option_copied result ≡ find (S.is sought.now) items.now }
 {
-    items.iter().find(|item| sought.is(item))
+    for at in 0..items.len() {
+        let item = items.get(at)?;
+        if sought.is(item) {
+            return Some(item);
+        }
+    }
+    None
 }
 
 // Where the first of the items stands that is sought.
