@@ -1,3 +1,4 @@
 pub mod Following
 pub mod Keeping
 pub mod Sole
+pub mod Unnamed

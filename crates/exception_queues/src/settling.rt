@@ -1,10 +1,12 @@
 // What becomes of the messages that changes name.
-ghost use Rattle.std.specs.Prelude.{◌≡◌, ◌++◌, [], IfOk, OnOk, Some, None, option_copied};
-ghost use Rattle.queue_rows.specs.Settling.{is_exception_of, named_or_default, exception_queue_of, retention_of, is_lost, is_handled, is_kept_by_none, settling_of, settled};
+ghost use Rattle.std.specs.Prelude.{◌≡◌, ◌++◌, [], IfOk, OnOk, Some, None, is_some, option_copied};
+ghost use Rattle.std.specs.List.{list_any};
+ghost use Rattle.queue_rows.specs.Settling.{is_exception_of, named_or_default, exception_queue_of, retention_of, is_lost, is_handled, is_kept_by_none, settling_of, settled, named_by};
 ghost use Rattle.exception_queues.specs.Outcomes.{outcome_of, settled_by, settling_by};
 ghost use Rattle.exception_queues.specs.Sole.{purge_of};
 
 use crate::alone::taken_whole;
+use crate::names::named_by;
 use crate::outcomes::{Outcome, Outcomes, outcomes_of};
 use crate::slots::{all_gone, any_expired, any_open, any_processed, is_slot_processed};
 use payload_records::{Copied, List, Name};
@@ -164,6 +166,27 @@ fn settle_each<T: MessageTables>(
     settle_all(changes, tables.tables(), &outcomes)
 }
 
+fn names_any(changes: &List<Change>) -> bool
+    ensures { result ≡ list_any (λ c. is_some (named_by c)) changes.now }
+{
+    changes.iter().any(|change| named_by(change).is_some())
+}
+
+// Where no change names a message there is nothing to settle.
+#[tactic(auto, using(crate::proofs::Unnamed::settles_none))]
+fn settle_others<T: MessageTables>(
+    tables: &T,
+    changes: List<Change>,
+) -> Result<List<Change>, AllocError>
+    ensures { IfOk result (λ all. all ≡ settled (T.tables tables.now) changes) }
+{
+    if names_any(&changes) {
+        settle_each(tables, changes)
+    } else {
+        Ok(changes)
+    }
+}
+
 /// What a list of changes is with what it settles: for each message that it names, that it moves to its exception queue
 /// or goes. Where the changes take the only slot of one message, and do nothing else, it is not copied.
 #[tactic(auto, using(crate::proofs::Sole::taken_settles))]
@@ -175,6 +198,6 @@ pub fn settle<T: MessageTables>(
 {
     match taken_whole(tables, &changes) {
         Some(message) => settle_taken(changes, tables.tables(), message),
-        None => settle_each(tables, changes),
+        None => settle_others(tables, changes),
     }
 }
