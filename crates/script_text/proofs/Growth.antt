@@ -1,16 +1,16 @@
 -- One more session, and one more statement, keep what each script keeps.
-use Rattle.std.proofs.Common.{◌≡◌, ℕ, ◌+◌, ◌<◌, Bool, true, false, ◌&&◌, ◌||◌, not, List, [], ◌∷◌, ◌++◌, map, length, get_or, set, take, drop, refl, sym, ap, ◌∙◌, arith, length-append}
-use Rattle.std.specs.Prelude.{nat_le}
-use Rattle.std.specs.List.{list_all, list_any, sum_by}
+use Rattle.std.proofs.Common.{◌≡◌, ℕ, zero, suc, ◌+◌, ◌<◌, Bool, true, false, ◌&&◌, ◌||◌, not, List, [], ◌∷◌, ◌++◌, map, length, get_or, set, take, drop, refl, sym, ap, ◌∙◌, arith, length-append}
+use Rattle.std.specs.Prelude.{nat_le, position, slice_get, Some}
+use Rattle.std.specs.List.{list_all, list_any, sum_by, position_or_len}
 use Rattle.std.specs.Str.{bytes_eq}
-use Rattle.std.proofs.lemmas.Bool.{le-leb}
+use Rattle.std.proofs.lemmas.Bool.{le-leb, lt-ltb}
 use Rattle.std.proofs.lemmas.List.{length-set, map-append}
 use Rattle.std.proofs.Math.Seq.{map-set_same}
 use Rattle.indexmap.specs.IndexSet.{insert_key}
 use Rattle.std.proofs.lemmas.List.Elements.{All-set, All-get_or}
 use Rattle.std.proofs.lemmas.List.Folds.{list_all-append, list_any-append}
 use Rattle.std.proofs.lemmas.List.Sums.{AllPass-from_list_all, list_all-from_AllPass, sum-map, sum_by-append, sum_by-set}
-use Rattle.std.proofs.lemmas.Option.{slice_get-get_or}
+use Rattle.std.proofs.lemmas.Option.{slice_get-get_or, slice_get-map, slice_get_within}
 use Rattle.std.proofs.lemmas.Slice.Eq.{bytes_eq-Decides}
 use Rattle.std.proofs.lemmas.Grind.{common_steps}
 use Rattle.aq_base.specs.declared.DbId.{DbId}
@@ -211,3 +211,32 @@ grown keys count n at statement ss new ok kept few h e whole =
     let all : take n (new ++ drop (length new) ss) ≡ set ss at s = all_of n new ss same whole ∙ is in
     let named : names (set ss at s) ≡ names ss = map-set_same (λ r. r.name) ss at s no_session refl in
     rw all (kept.0 ∙ sym named, ap (λ k. k + 1) kept.1 ∙ sym (count_set statement ss at h), asked statement ss at h few_so_far ok kept.2)
+
+-- ---- the number of a name
+
+none_at : (test : List ℕ → Bool) (ns : List (List ℕ)) (at : ℕ) (name : List ℕ) → list_any test ns ≡ false → slice_get ns at ≡ Some name → test name ≡ false
+none_at test [] at name none e = absurd cc
+none_at test (n ∷ ns) zero name none e = let others = neither (test n) (list_any test ns) none in let first = others.0 in cc
+none_at test (n ∷ ns) (suc at) name none e = none_at test ns at name (neither (test n) (list_any test ns) none).1 e
+
+first_at : (ns : List (List ℕ)) (at : ℕ) (name : List ℕ) → are_distinct bytes_eq ns ≡ true → slice_get ns at ≡ Some name → position_or_len (bytes_eq name) ns ≡ at
+first_at [] at name d e = absurd cc
+first_at (n ∷ ns) zero name d e =
+    let is : n ≡ name = cc in
+    let same : bytes_eq name n ≡ true = (bytes_eq-Decides name n).1 (sym is) in
+    rw same refl
+first_at (n ∷ ns) (suc at) name d e =
+    let parts = both (not (list_any (bytes_eq n) ns)) (are_distinct bytes_eq ns) d in
+    let free : list_any (bytes_eq n) ns ≡ false = turned_off (list_any (bytes_eq n) ns) parts.0 in
+    let differs : bytes_eq name n ≡ false = other n name (none_at (bytes_eq n) ns at name free e) in
+    let behind : position_or_len (bytes_eq name) ns ≡ at = first_at ns at name parts.1 e in
+    rw (differs, behind) (omega arith)
+
+-- what stands where it is guessed is found there, since no other session has its name
+pub guessed : (ss : List SessionScript) (at : ℕ) (s : SessionScript) (name : List ℕ) → AreReadable ss → slice_get ss at ≡ Some s → bytes_eq s.name name ≡ true → position (bytes_eq name) (names ss) ≡ Some at
+guessed ss at s name kept e same =
+    let p : Parts ss = parts_of ss kept.within in
+    let named : s.name ≡ name = (bytes_eq-Decides s.name name).0 same in
+    let there : slice_get (names ss) at ≡ Some name = slice_get-map (λ r. r.name) ss at ∙ rw e (ap (λ n. Some n) named) in
+    let first : position_or_len (bytes_eq name) (names ss) ≡ at = first_at (names ss) at name p.distinct there in
+    rw (first, lt-ltb at (length (names ss)) (slice_get_within (names ss) at name there)) refl

@@ -1,6 +1,6 @@
 -- What a plain statement says of members that it has not.
 use Rattle.std.proofs.Common.{◌≡◌, ℕ, List, Bool, true, false, ◌||◌, Option, Some, None, refl, ap, ◌∙◌}
-use Rattle.std.specs.Prelude.{codes, is_some}
+use Rattle.std.specs.Prelude.{codes, is_some, option_and_then}
 use Rattle.std.specs.Str.{bytes_eq}
 use Rattle.std.specs.Ordering.{nat_cmp, match_ordering, is_eq}
 use Rattle.std.specs.Cmp.Lexicographic.{slice_cmp}
@@ -14,8 +14,11 @@ use Rattle.serde_json.specs.Find.{get, get_member}
 use Rattle.script_text.specs.declared.form.Form.{Form}
 use Rattle.script_text.specs.declared.form.Form.TheVariants.{Asking, PlainEnqueue, PlainDequeue}
 use Rattle.script_text.specs.declared.form.Verb.TheVariants.{Enqueue, Dequeue}
+use Rattle.script_text.specs.Line.{line_from, asking}
+use Rattle.script_text.specs.Plain as plain
+use Rattle.script_text.specs.Plain.{plain_line, plain_asking, visibility_given}
 use Rattle.script_text.specs.Form.{is_key_of, only_keys, some_if, has_form}
-use Rattle.script_text.specs.Statement.{placing_at, plain_placing, enqueue, plain_enqueue, dequeue, plain_dequeue}
+use Rattle.script_text.specs.Statement.{placing_at, plain_placing, enqueue, plain_enqueue, dequeue, plain_dequeue, statement}
 use Rattle.script_text.proofs.Tests.{both, joined}
 
 -- ---- what it lacks
@@ -139,3 +142,26 @@ dequeue_is_plain d has = rw (
   lacks PlainDequeue (codes "corr") refl d has,
   lacks PlainDequeue (codes "condition") refl d has,
 ) refl
+
+-- ---- a line of plain members
+
+through : {A B C : Type 0} (o : Option A) (g : A → B) (f : B → Option C) → option_and_then f (option_and_then (λ a. Some (g a)) o) ≡ option_and_then (λ a. f (g a)) o
+through None g f = refl
+through (Some a) g f = refl
+
+plain_form : (p q s : Data) (v : Option Data) → has_form PlainEnqueue (plain_line p q s v) ≡ true
+plain_form p q s None = refl
+plain_form p q s (Some d) = refl
+
+plain_ask : (p q s : Data) (v : Option Data) → plain_enqueue (plain_line p q s v) ≡ plain.plain_enqueue p q v
+unfolding plain_enqueue plain_placing plain.plain_enqueue
+plain_ask p q s None = refl
+plain_ask p q s (Some d) = through (visibility_given (Some d)) _ _
+
+ask_is_plain : (p q s : Data) (v : Option Data) → enqueue (plain_line p q s v) ≡ plain.plain_enqueue p q v
+ask_is_plain p q s v = enqueue_is_plain (plain_line p q s v) (plain_form p q s v) ∙ plain_ask p q s v
+
+pub line_is_plain : (p q s : Data) (v : Option Data) → line_from (plain_line p q s v) ≡ plain_asking p q s v
+unfolding line_from asking statement plain_asking
+line_is_plain p q s None = rw (ask_is_plain p q s None) refl
+line_is_plain p q s (Some d) = rw (ask_is_plain p q s (Some d)) refl

@@ -1,11 +1,9 @@
 // Lines that were read, for lines that are the same.
-ghost use Rattle.std.specs.Prelude.{◌≡◌, IfOk, IfSome, IsErrOf, Some, None};
+ghost use Rattle.std.specs.Prelude.{◌≡◌, IfSome, Some};
 ghost use Rattle.script_text.specs.Line.{line_of};
-ghost use Rattle.script_text.specs.Readable.{IsReadableLine};
+ghost use Rattle.script_text.specs.Readable.{IsReadable};
 ghost use Rattle.script_text.specs.declared.line.Line.TheVariants.{Asked};
 
-use crate::fault::LineFault;
-use crate::line::{Line, read_line};
 use payload_records::{Copied, Name, Shared};
 use queue_rows::Statement;
 use std::alloc::{AllocError, Global};
@@ -19,11 +17,15 @@ fn is_repeated(statement: &Statement) -> bool {
     )
 }
 
-// A line, and what it asks.
-struct Earlier {
+/// A line that was read, the session that asks in it with its number, and what it asks.
+pub struct Earlier {
     line: Vec<u8>,
-    session: Name,
-    statement: Shared<Statement>,
+    /// The session's name.
+    pub session: Name,
+    /// The session's number.
+    pub at: usize,
+    /// The statement.
+    pub statement: Shared<Statement>,
 }
 
 impl Drop for Earlier {
@@ -31,6 +33,7 @@ impl Drop for Earlier {
         let Self {
             line: _,
             session: _,
+            at: _,
             statement: _,
         } = self;
     }
@@ -41,18 +44,10 @@ impl Earlier {
         let Self {
             line,
             session: _,
+            at: _,
             statement: _,
         } = self;
         line
-    }
-
-    // What it asks, once more: one more owner of the statement.
-    fn again(&self) -> Result<Line, AllocError>
-        ensures { IfOk result (λ said. said ≡ Asked self.now.session self.now.statement) }
-    {
-        let session = self.session.copied()?;
-        let statement = self.statement.copied()?;
-        Ok(Line::Asked { session, statement })
     }
 }
 
@@ -65,7 +60,7 @@ struct EarlierLine {
 impl Model for EarlierLine {
     ghost use Rattle.std.specs.Prelude.{◌≡◌, Option, Some, IfSome};
     ghost use Rattle.script_text.specs.Line.{line_of};
-    ghost use Rattle.script_text.specs.Readable.{IsReadableLine};
+    ghost use Rattle.script_text.specs.Readable.{IsReadable};
     ghost use Rattle.script_text.specs.declared.earlier.Earlier.{Earlier};
     ghost use Rattle.script_text.specs.declared.line.Line.TheVariants.{Asked};
 
@@ -74,23 +69,21 @@ impl Model for EarlierLine {
     ghost view = { λ l. l.kept };
 
     ghost invariant = { λ l. IfSome l.kept (λ e.
-        (line_of e.line.items ≡ Some (Asked e.session e.statement))
-        × IsReadableLine (Asked e.session e.statement)) };
+        (line_of e.line.items ≡ Some (Asked e.session e.statement)) × IsReadable e.statement) };
 }
 
 impl EarlierLine {
-    // What a line says that is the same, if it is.
-    fn repeated(&self, line: &[u8]) -> Result<Option<Line>, AllocError>
-        ensures { IfOk result (λ found. IfSome found (λ said.
-            (line_of line.now ≡ Some said) × IsReadableLine said)) }
+    // What is kept, where its line is the same.
+    fn same(&self, line: &[u8]) -> Option<&Earlier>
+        ensures { IfSome result (λ e. (line_of line.now ≡ Some (Asked e.now.session e.now.statement))
+            × IsReadable e.now.statement) }
     {
-        let Some(earlier) = &self.kept else {
-            return Ok(None);
-        };
-        if earlier.line.as_slice() != line {
-            return Ok(None);
+        let earlier = self.kept.as_ref()?;
+        if earlier.line.as_slice() == line {
+            Some(earlier)
+        } else {
+            None
         }
-        Ok(Some(earlier.again()?))
     }
 
     // Keeps the line in place of the one that was kept. At want of memory none is kept.
@@ -99,10 +92,11 @@ impl EarlierLine {
         alloc: Global,
         line: &[u8],
         session: Name,
+        at: usize,
         statement: Shared<Statement>,
     ) -> Result<(), AllocError>
         requires said { line_of line.now ≡ Some (Asked session statement) }
-        requires readable { IsReadableLine (Asked session statement) }
+        requires readable { IsReadable statement }
     {
         let mut bytes = match self.kept.take() {
             Some(earlier) => earlier.into_line(),
@@ -113,6 +107,7 @@ impl EarlierLine {
         self.kept = Some(Earlier {
             line: bytes,
             session,
+            at,
             statement,
         });
         Ok(())
@@ -158,47 +153,33 @@ impl EarlierLines {
         EarlierLines { places }
     }
 
-    // What a line says that is the same as one that is kept, if it is.
-    fn repeated(&self, line: &[u8]) -> Result<Option<Line>, AllocError>
-        ensures { IfOk result (λ found. IfSome found (λ said.
-            (line_of line.now ≡ Some said) × IsReadableLine said)) }
+    /// What is kept of a line that is the same, if one is.
+    pub fn same(&self, line: &[u8]) -> Option<&Earlier>
+        ensures { IfSome result (λ e. (line_of line.now ≡ Some (Asked e.now.session e.now.statement))
+            × IsReadable e.now.statement) }
     {
-        match self.places.get(place_of(line)) {
-            Some(place) => place.repeated(line),
-            None => Ok(None),
-        }
+        self.places.get(place_of(line))?.same(line)
     }
 
-    // Keeps a line that was read, where such lines mostly come again.
-    fn note(&mut self, alloc: Global, line: &[u8], said: &Line) -> Result<(), AllocError>
-        requires said { line_of line.now ≡ Some said.now }
-        requires readable { IsReadableLine said.now }
+    /// Keeps a line that was read, where such lines mostly come again.
+    pub fn note(
+        &mut self,
+        alloc: Global,
+        line: &[u8],
+        session: Name,
+        at: usize,
+        statement: &Shared<Statement>,
+    ) -> Result<(), AllocError>
+        requires said { line_of line.now ≡ Some (Asked session statement.now) }
+        requires readable { IsReadable statement.now }
     {
-        let Line::Asked { session, statement } = said else {
-            return Ok(());
-        };
         if !is_repeated(statement) {
             return Ok(());
         }
-        let session = session.copied()?;
         let statement = statement.copied()?;
         match self.places.get_mut(place_of(line)) {
-            Some(place) => place.keep(alloc, line, session, statement),
+            Some(place) => place.keep(alloc, line, session, at, statement),
             None => Ok(()),
         }
-    }
-
-    /// What a line says, which is given without its line feed. What an earlier line said that is the same is not read again.
-    pub fn read(&mut self, alloc: Global, line: &[u8]) -> Result<Line, LineFault>
-        ensures ok { IfOk result (λ l. line_of line.now ≡ Some l) }
-        ensures readable { IfOk result IsReadableLine }
-        ensures bad { IsErrOf result LineFault.Bad → line_of line.now ≡ None }
-    {
-        if let Some(said) = self.repeated(line)? {
-            return Ok(said);
-        }
-        let said = read_line(alloc, line)?;
-        self.note(alloc, line, &said)?;
-        Ok(said)
     }
 }

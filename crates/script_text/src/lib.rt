@@ -11,6 +11,7 @@ mod listed;
 mod member;
 mod message;
 mod parts;
+mod plain_enqueue;
 mod reading;
 mod sessions;
 mod statement;

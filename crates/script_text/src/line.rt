@@ -9,6 +9,7 @@ use crate::fault::LineFault;
 use crate::form::{Form, has_form};
 use crate::member::name_at;
 use crate::parts::{place_at, session_at};
+use crate::plain_enqueue::plain_line;
 use crate::statement::statement_at;
 use aq_base::{DbId, LINE_LIMIT};
 use payload_records::{Name, Shared};
@@ -83,6 +84,9 @@ fn line_from(alloc: Global, value: &Value) -> Result<Line, LineFault>
     ensures readable { IfOk result IsReadableLine }
     ensures bad { IsErrOf result LineFault.Bad → line_from (view value.now) ≡ None }
 {
+    if let Some(line) = plain_line(alloc, value)? {
+        return Ok(line);
+    }
     if value.get("session").is_none() {
         return asking(alloc, value);
     }
@@ -92,11 +96,27 @@ fn line_from(alloc: Global, value: &Value) -> Result<Line, LineFault>
     declaration(alloc, value)
 }
 
-fn is_all_blank(line: &[u8]) -> bool
+fn is_blank(byte: u8) -> bool
+    ensures { result ≡ is_blank byte }
+{
+    byte == b' ' || byte == b'\t' || byte == b'\r'
+}
+
+fn are_blank(line: &[u8]) -> bool
     ensures { result ≡ list_all is_blank line.now }
 {
     line.iter()
         .all(|byte| *byte == b' ' || *byte == b'\t' || *byte == b'\r')
+}
+
+// Mostly its first byte says that it is not.
+fn is_all_blank(line: &[u8]) -> bool
+    ensures { result ≡ list_all is_blank line.now }
+{
+    match line {
+        [first, ..] if !is_blank(*first) => false,
+        _ => are_blank(line),
+    }
 }
 
 /// What a line says, which is given without its line feed.

@@ -300,7 +300,8 @@ fn visibility_of(text: &str) -> Option<Visibility>
     }
 }
 
-fn visibility_in(value: &Value) -> Option<Visibility>
+/// When what a statement does is to be seen by others, as a value says it.
+pub fn visibility_in(value: &Value) -> Option<Visibility>
     ensures { result ≡ visibility_in (view value.now) }
 {
     visibility_of(value.as_str()?)

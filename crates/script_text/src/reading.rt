@@ -9,10 +9,13 @@ use crate::earlier::EarlierLines;
 use crate::fault::{LineFault, ScriptFault};
 use crate::sessions::Sessions;
 use aq_base::INPUT_LIMIT;
-use memchr::{memchr, memchr_iter};
+use memchr::memchr;
 use payload_records::List;
 use queue_rows::SessionScript;
 use std::alloc::Global;
+
+/// The bytes of the shortest line that asks a statement, as {"s":"a","do":"commit"}, with its line feed.
+const SHORTEST_LINE: usize = 24;
 
 #[tactic(auto, using(crate::proofs::Feeds::first_is_position))]
 fn line_end(text: &[u8]) -> Option<usize>
@@ -55,7 +58,7 @@ fn read_lines(alloc: Global, bytes: &[u8], is_whole: bool) -> Result<Sessions, S
     ensures ok { IfOk result (λ sessions. with_lines 1 [] (lines_in is_whole bytes.now) ≡ Ok sessions) }
     ensures bad { IfErr result (λ fault. IsFaultOf fault (with_lines 1 [] (lines_in is_whole bytes.now))) }
 {
-    let mut sessions = Sessions::new(alloc, memchr_iter(b'\n', bytes).count() + 1);
+    let mut sessions = Sessions::new(alloc, bytes.len() / SHORTEST_LINE + 1);
     let mut earlier = EarlierLines::new(alloc);
     let mut number = 1u64;
     let mut rest = Some(bytes);

@@ -3,12 +3,14 @@ ghost use Rattle.std.specs.Prelude.{◌≡◌, ◌≤◌, ◌<◌, [], true, is_
 ghost use Rattle.std.specs.List.{list_any};
 ghost use Rattle.std.specs.Str.{bytes_eq};
 ghost use Rattle.queue_rows.specs.Within.{is_session_name, statement_count};
-ghost use Rattle.script_text.specs.Readable.{IsReadable, IsReadableLine, AreReadable};
-ghost use Rattle.script_text.specs.Script.{number_of, with_session, with_statement, with_statement_at, with_statement_of, with_line, with_bytes};
+ghost use Rattle.script_text.specs.Line.{line_of};
+ghost use Rattle.script_text.specs.Readable.{IsReadable, AreReadable};
+ghost use Rattle.script_text.specs.Script.{number_of, with_session, with_statement, with_statement_at, with_statement_of, with_bytes};
+ghost use Rattle.script_text.specs.declared.line.Line.TheVariants.{Asked};
 
-use crate::earlier::EarlierLines;
+use crate::earlier::{Earlier, EarlierLines};
 use crate::fault::LineFault;
-use crate::line::Line;
+use crate::line::{Line, read_line};
 use aq_base::{DbId, SESSION_LIMIT, STATEMENT_LIMIT};
 use indexmap::IndexSet;
 use payload_records::{Copied, List, Name, Shared};
@@ -17,12 +19,13 @@ use std::alloc::{AllocError, Global};
 use std::marker::Model;
 
 /// The sessions that were declared so far, each with what it asks, their names with the same numbers, how many statements
-/// they ask together, and the most lines that are to come.
+/// they ask together, the most of them that are to come, and the number of the one that asked last.
 pub struct Sessions {
     names: IndexSet<Name>,
     list: Vec<SessionScript>,
     asked: usize,
     lines: usize,
+    last: usize,
 }
 
 impl Drop for Sessions {
@@ -32,6 +35,7 @@ impl Drop for Sessions {
             list: _,
             asked: _,
             lines: _,
+            last: _,
         } = self;
     }
 }
@@ -91,7 +95,7 @@ fn share_room(sessions: &mut [SessionScript], statements: usize)
 }
 
 impl Sessions {
-    /// No session, before a text of that many lines is read.
+    /// No session, before a text of that many statements at most is read.
     pub fn new(alloc: Global, lines: usize) -> Sessions
         ensures { result ≡ [] }
     {
@@ -100,6 +104,7 @@ impl Sessions {
             list: Vec::new(alloc),
             asked: 0,
             lines,
+            last: 0,
         }
     }
 
@@ -141,8 +146,19 @@ impl Sessions {
         Ok(())
     }
 
+    // The number of the session of a name, which is looked for where it is not the guess.
+    fn number_near(&self, guess: usize, name: &Name) -> Option<usize>
+        ensures number { result ≡ number_of name.now self.now }
+        ensures within { IfSome result (λ at. at < length self.now) }
+    {
+        match self.list.get(guess) {
+            Some(session) if session.name == *name => Some(guess),
+            _ => self.number_of(name),
+        }
+    }
+
     // The number of the session of a name, where the script may have one more statement.
-    fn place_for(&self, name: &Name) -> Option<usize>
+    fn place_for(&self, guess: usize, name: &Name) -> Option<usize>
         ensures place { IfSome result (λ at. number_of name.now self.now ≡ Some at) }
         ensures room { IfSome result (λ _. statement_count self.now < 1000000) }
         ensures within { IfSome result (λ at. at < length self.now) }
@@ -152,7 +168,7 @@ impl Sessions {
         if self.asked >= STATEMENT_LIMIT {
             return None;
         }
-        self.number_of(name)
+        self.number_near(guess, name)
     }
 
     fn put(&mut self, at: usize, statement: Shared<Statement>) -> Result<(), AllocError>
@@ -163,38 +179,68 @@ impl Sessions {
     {
         push_statement_at(&mut self.list, at, statement)?;
         self.asked += 1;
+        self.last = at;
         Ok(())
     }
 
-    // It lets the statement go at one exit alone: at each, all that a statement may hold is followed anew.
-    fn ask(&mut self, name: &Name, statement: Shared<Statement>) -> Result<(), LineFault>
-        requires { IsReadable statement }
-        ensures ok { OnOk result (with_statement_of name.now statement self.old ≡ Some self.new) }
+    // The line says what it asks. It is kept where it may come again.
+    fn ask(
+        &mut self,
+        alloc: Global,
+        earlier: &mut EarlierLines,
+        line: &[u8],
+        session: Name,
+        statement: Shared<Statement>,
+    ) -> Result<(), LineFault>
+        requires said { line_of line.now ≡ Some (Asked session statement) }
+        requires readable { IsReadable statement }
+        ensures ok { OnOk result (with_statement_of session statement self.old ≡ Some self.new) }
         ensures bad { IsErrOf result LineFault.Bad
-            → with_statement_of name.now statement self.old ≡ None }
+            → with_statement_of session statement self.old ≡ None }
     {
-        let Some(at) = self.place_for(name) else {
+        let Some(at) = self.place_for(self.last, &session) else {
             return Err(LineFault::Bad);
         };
+        earlier.note(alloc, line, session, at, &statement)?;
         Ok(self.put(at, statement)?)
     }
 
-    fn add(&mut self, line: Line) -> Result<(), LineFault>
-        requires { IsReadableLine line }
-        ensures ok { OnOk result (with_line self.old line ≡ Some self.new) }
-        ensures bad { IsErrOf result LineFault.Bad → with_line self.old line ≡ None }
+    fn ask_again(&mut self, earlier: &Earlier) -> Result<(), LineFault>
+        requires { IsReadable earlier.now.statement }
+        ensures ok { OnOk result
+            (with_statement_of earlier.now.session earlier.now.statement self.old ≡ Some self.new) }
+        ensures bad { IsErrOf result LineFault.Bad
+            → with_statement_of earlier.now.session earlier.now.statement self.old ≡ None }
     {
-        match line {
+        let Some(at) = self.place_for(earlier.at, &earlier.session) else {
+            return Err(LineFault::Bad);
+        };
+        let statement = earlier.statement.copied()?;
+        Ok(self.put(at, statement)?)
+    }
+
+    // A line that is not the same as one that is kept.
+    fn add_new(
+        &mut self,
+        alloc: Global,
+        earlier: &mut EarlierLines,
+        line: &[u8],
+    ) -> Result<(), LineFault>
+        ensures ok { OnOk result (with_bytes self.old line.now ≡ Some self.new) }
+        ensures bad { IsErrOf result LineFault.Bad → with_bytes self.old line.now ≡ None }
+    {
+        match read_line(alloc, line)? {
             Line::Blank => Ok(()),
             Line::Declared { name, at } => self.declare(name, at),
             Line::Asked { session, statement } => {
                 self.make_room();
-                self.ask(&session, statement)
+                self.ask(alloc, earlier, line, session, statement)
             }
         }
     }
 
-    /// Takes one more line in, which is given without its line feed, beside lines that were read before.
+    /// Takes one more line in, which is given without its line feed, beside lines that were read before. One that is the same
+    /// as an earlier one is not read again.
     pub fn add_line(
         &mut self,
         alloc: Global,
@@ -204,8 +250,10 @@ impl Sessions {
         ensures ok { OnOk result (with_bytes self.old line.now ≡ Some self.new) }
         ensures bad { IsErrOf result LineFault.Bad → with_bytes self.old line.now ≡ None }
     {
-        let line = earlier.read(alloc, line)?;
-        self.add(line)
+        if let Some(same) = earlier.same(line) {
+            return self.ask_again(same);
+        }
+        self.add_new(alloc, earlier, line)
     }
 
     /// The sessions in the order in which they were declared.
@@ -218,6 +266,7 @@ impl Sessions {
             list,
             asked: _,
             lines: _,
+            last: _,
         } = self;
         List::from_vec(list)
     }
