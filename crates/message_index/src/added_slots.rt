@@ -56,7 +56,8 @@ fn is_move(change: &Change) -> bool
     matches!(change, Change::Moved { .. })
 }
 
-fn any_move(changes: &List<Change>) -> bool
+/// Whether any of the changes moves a message.
+pub(crate) fn any_move(changes: &List<Change>) -> bool
     ensures { result ≡ list_any is_move changes.now }
 {
     changes.iter().any(|change| is_move(change))

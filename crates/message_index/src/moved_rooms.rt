@@ -5,7 +5,7 @@ ghost use Rattle.std.specs.Option.{option_map_or};
 ghost use Rattle.message_index.specs.Messages.{ids_of};
 ghost use Rattle.message_index.specs.SlotRooms.{slots_of, AddsRoom, HasSlotRooms, TellsAdded};
 
-use crate::added_slots::{AddedSlots, added_slots, added_to};
+use crate::added_slots::{AddedSlots, added_slots, added_to, any_move};
 use crate::found::find;
 use crate::message_index::MessageIndex;
 use open_rows::{RowRoom, total};
@@ -97,8 +97,8 @@ fn add_room(
     Ok(())
 }
 
-/// Memory for the slots of each message that the changes move, in their order, as many as it can have then.
-pub fn slot_rooms(
+// Memory for the slots of each message that the changes move, where they move any.
+fn rooms_of_moves(
     messages: &Tree<MsgRow>,
     index: &MessageIndex,
     changes: &List<Change>,
@@ -112,4 +112,20 @@ pub fn slot_rooms(
         add_room(&mut rooms, messages, index, changes, &added, change)?;
     }
     Ok(rooms)
+}
+
+/// Memory for the slots of each message that the changes move, in their order, as many as it can have then.
+pub fn slot_rooms(
+    messages: &Tree<MsgRow>,
+    index: &MessageIndex,
+    changes: &List<Change>,
+) -> Result<VecDeque<RowRoom<SlotRow>>, AllocError>
+    requires { index.now.ids ≡ ids_of messages.now }
+    ensures { IfOk result (λ rooms. HasSlotRooms messages.now changes.now changes.now rooms.items) }
+{
+    if any_move(changes) {
+        rooms_of_moves(messages, index, changes)
+    } else {
+        Ok(VecDeque::new(changes.allocator()))
+    }
 }

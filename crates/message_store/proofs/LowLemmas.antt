@@ -1,5 +1,5 @@
 -- A queue whose lowest lane follows a message, or stays.
-use Rattle.std.proofs.Common.{◌≡◌, ℕ, Bool, true, false, cond, List, [], ◌∷◌, Option, Some, None, refl, ap, ◌∙◌, inl, inr}
+use Rattle.std.proofs.Common.{◌≡◌, ℕ, Bool, true, false, cond, List, [], ◌∷◌, Option, Some, None, length, refl, ap, ◌∙◌, inl, inr}
 use Rattle.std.specs.Prelude.{ℤ, find, slice_get, slice_set}
 use Rattle.std.specs.Option.{option_map_or}
 use Rattle.std.proofs.lemmas.Bool.{cases_Bool}
@@ -8,6 +8,7 @@ use Rattle.queue_rows.specs.Rows.{changed_first, changed_nth, changed_some, set_
 use Rattle.queue_rows.specs.Tables.{is_grouped, lowered_to}
 use Rattle.queue_rows.specs.declared.rows.TableRow.{TableRow}
 use Rattle.queue_rows.specs.declared.rows.QueueRow.{QueueRow}
+use Rattle.open_rows.proofs.NamedLemmas.{edited_len}
 use Rattle.row_laws.proofs.Firsts.{changed_first-yes, changed_first-no}
 
 module _ {X : Type 0} (p : X → Bool) (f : X → X) (q : X) (stays : f q ≡ q) where
@@ -30,3 +31,7 @@ edited_at {X} rows at change =
 -- a queue that is lowered keeps its name
 pub name_lowered : (tables : List TableRow) (place : List ℤ) (queue : QueueRow) → (lowered_to tables place queue).name ≡ queue.name
 name_lowered tables place queue = elim (cases_Bool (is_grouped tables queue)) [ inl grouped ↦ rw grouped refl | inr single ↦ rw single refl ]
+
+-- a row that is changed leaves as many
+pub length_edited : {X : Type 0} (rows : List X) (at : ℕ) (change : X → X) → length (edit_at rows at change) ≡ length rows
+length_edited rows at change = edited_len rows at change

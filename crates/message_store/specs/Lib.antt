@@ -2,6 +2,7 @@ pub mod Beside
 pub mod Kept
 pub mod Lowered
 pub mod Numbers
+pub mod OfMessages
 pub mod Open
 pub mod Prepared
 pub mod Puts

@@ -159,9 +159,9 @@ fn are_taken(dones: &[Change], gone: &[Change]) -> bool
     true
 }
 
-// Of how many messages, from the first change on, a slot is done, where all of these messages then go in the same order and nothing
-// else is changed; none where it is not so.
-fn count_taken(changes: &[Change]) -> usize
+/// Of how many messages, from the first change on, a slot is done, where all of these messages then go in the same order and nothing
+/// else is changed; none where it is not so.
+pub(crate) fn count_taken(changes: &[Change]) -> usize
     ensures within { result ≤ length changes.now }
     ensures taken { TakesWhole result changes.now }
 {

@@ -25,11 +25,13 @@ fn is_grouped(tables: &NamedList<TableRow>, queue: &QueueRow) -> bool
     }
 }
 
-// The lowest lane of the queue follows a message.
+/// The lowest lane of the queue follows a message.
 #[derive(Drop)]
-struct Lower<'a> {
-    tables: &'a NamedList<TableRow>,
-    place: &'a Place,
+pub(crate) struct Lower<'a> {
+    /// The queue tables.
+    pub(crate) tables: &'a NamedList<TableRow>,
+    /// The place of the message.
+    pub(crate) place: &'a Place,
 }
 
 impl<'a> Edit<QueueRow> for Lower<'a> {
@@ -49,8 +51,8 @@ fn keeps_lowest(queue: &QueueRow, place: &Place) -> bool
     queue.lowest <= lane_of(place)
 }
 
-// Whether there is a queue of that name, whose lowest lane stays.
-fn is_low(queues: &NamedList<QueueRow>, name: &Name, place: &Place) -> bool
+/// Whether there is a queue of that name, whose lowest lane stays.
+pub(crate) fn is_low(queues: &NamedList<QueueRow>, name: &Name, place: &Place) -> bool
     ensures { IsTrue result → (tables : List TableRow)
         → changed_first (λ q. bytes_eq q.name name.now) (lowered_to tables place.now) queues.now
         ≡ queues.now }

@@ -1,14 +1,16 @@
 // The tables of a database, with what is kept beside them.
-ghost use Rattle.std.specs.Prelude.{◌≡◌, ◌==◌, OnOk, [], length, option_copied, position};
+ghost use Rattle.std.specs.Prelude.{◌≡◌, ◌==◌, All, OnOk, [], length, option_copied, position, true};
 ghost use Rattle.choice_laws.specs.Entries.{message_at};
 ghost use Rattle.queue_rows.specs.Rows.{find_message};
-ghost use Rattle.queue_rows.specs.Tables.{empty_tables};
+ghost use Rattle.queue_rows.specs.Tables.{after, empty_tables};
 ghost use Rattle.message_index.specs.Caches.{AreOf};
+ghost use Rattle.message_store.specs.OfMessages.{is_of_message};
 ghost use Rattle.message_store.specs.Open.{held, room_of};
 ghost use Rattle.message_store.specs.Prepared.{AreReady};
 ghost use Rattle.message_index.specs.Stamped.{AreStamps, IfReady, IfRemote, entries_of};
 
 use crate::beside::Beside;
+use crate::in_place::apply_in_place;
 use crate::numbers::check_numbers;
 use crate::open::OpenTables;
 use message_choice::StampedMessages;
@@ -116,6 +118,17 @@ impl KeptTables {
         ensures { IfRemote (entries_of self.now.stamps self.now.tables.messages) result.slots }
     {
         RemoteCache::of(&self.tables.messages, &self.beside.index, alloc)
+    }
+
+    /// Makes the changes of a commit in order, each of one message that stays in its queue, at its moment. It needs no memory.
+    pub(crate) fn apply_in_place(&mut self, caches: &mut Caches, commit: Commit)
+        requires ready { AreReady self.old.tables self.old.room commit.changes }
+        requires messages { All (λ c. is_of_message c ≡ true) commit.changes }
+        requires caches { AreOf self.old.stamps self.old.tables.messages caches.old }
+        ensures tables { self.new.tables ≡ after self.old.tables commit }
+        ensures caches { AreOf self.new.stamps self.new.tables.messages caches.new }
+    {
+        apply_in_place(&mut self.tables, &mut self.beside, caches, commit);
     }
 
     /// The tables, opened, with the indexes of their messages. It takes no memory.

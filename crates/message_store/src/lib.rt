@@ -5,6 +5,7 @@ mod apply;
 mod beside;
 mod copies;
 mod enqueued;
+mod in_place;
 mod kept_tables;
 mod numbers;
 mod open;

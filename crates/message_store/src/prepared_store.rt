@@ -7,6 +7,7 @@ ghost use Rattle.message_store.specs.Stored.{IsPreparedFor, IsCommitFor};
 
 use crate::apply::apply;
 use crate::copies::copies_of;
+use crate::in_place::are_of_messages;
 use crate::kept_tables::KeptTables;
 use due_index::DueIndex;
 use due_slots::DueTables;
@@ -115,11 +116,10 @@ impl PreparedStore {
         self.kept.prepare(commit)
     }
 
-    /// Makes the changes of a commit that was prepared, in order, at its moment. It needs no memory: where there is none for the rows of
-    /// an index, the index is let go.
+    // Makes the changes of a commit in opened tables.
     #[tactic(auto, unfolding(crate::specs::Stored::IsPreparedFor))]
-    pub fn apply(&mut self, commit: Commit)
-        requires prepared { IsPreparedFor self.old commit.changes }
+    fn apply_opened(&mut self, commit: Commit)
+        requires { IsPreparedFor self.old commit.changes }
         ensures { self.new.tables ≡ after self.old.tables commit }
     {
         let alloc = commit.changes.allocator();
@@ -131,6 +131,20 @@ impl PreparedStore {
         let (kept, caches) = KeptTables::close(open, alloc);
         self.kept = kept;
         self.caches = caches;
+    }
+
+    /// Makes the changes of a commit that was prepared, in order, at its moment. It needs no memory: where there is none for the rows of
+    /// an index, the index is let go.
+    #[tactic(auto, unfolding(crate::specs::Stored::IsPreparedFor))]
+    pub fn apply(&mut self, commit: Commit)
+        requires prepared { IsPreparedFor self.old commit.changes }
+        ensures { self.new.tables ≡ after self.old.tables commit }
+    {
+        if are_of_messages(&commit.changes) {
+            self.kept.apply_in_place(&mut self.caches, commit);
+        } else {
+            self.apply_opened(commit);
+        }
     }
 
     /// Takes all memory for a commit of these changes at that moment, which is what is given; an empty list is no commit. The tables

@@ -8,4 +8,4 @@ use Rattle.message_index.proofs.open_messages.OpenMessages.position.Goals as goa
 pub returns-clause-first : goal.returns-clause-first
 returns-clause-first c =
     let id = c.args.id in
-    c.position.ensures.first ∙ position_in_index id c.self.inside.rows c.self.inside.index c.self.invariant.0 ∙ ap (λ (r : Rows MsgRow). position (λ m. m.id == id) r.items) c.self.view_is
+    c.position.ensures.first ∙ position_in_index id c.self.inside.rows c.self.inside.index c.self.invariant.ids ∙ ap (λ (r : Rows MsgRow). position (λ m. m.id == id) r.items) c.self.view_is

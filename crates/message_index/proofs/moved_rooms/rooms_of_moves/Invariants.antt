@@ -1,7 +1,7 @@
 use Rattle.std.proofs.Common.{◌++◌, All, List, ℕ, nat_eq}
 use Rattle.std.specs.HashMap.{get}
 use Rattle.message_index.specs.SlotRooms.{HasSlotRooms, TellsAdded}
-use Rattle.message_index.proofs.moved_rooms.slot_rooms.Given as goal
+use Rattle.message_index.proofs.moved_rooms.rooms_of_moves.Given as goal
 
 abbrev pub invariant-loop-change : goal.invariant-loop-change
 invariant-loop-change l = record {

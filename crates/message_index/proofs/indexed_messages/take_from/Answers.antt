@@ -1,7 +1,7 @@
 use Rattle.std.proofs.Common.{sym}
 use Rattle.message_index.specs.DueKept.{keeps_in}
 use Rattle.message_index.proofs.IndexLemmas.{due_taken}
-use Rattle.message_index.proofs.open_messages.take_beside.Goals as goal
+use Rattle.message_index.proofs.indexed_messages.take_from.Goals as goal
 
 pub returns-in-Some-clause-due : goal.returns-in-Some-clause-due
 returns-in-Some-clause-due c =

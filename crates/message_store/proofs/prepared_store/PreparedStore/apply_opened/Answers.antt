@@ -3,7 +3,7 @@ use Rattle.queue_rows.specs.Tables.{after}
 use Rattle.queue_rows.specs.declared.tables.Tables.{Tables}
 use Rattle.message_store.specs.Kept.{Kept}
 use Rattle.message_store.specs.Stored.{Stored}
-use Rattle.message_store.proofs.prepared_store.PreparedStore.apply.Goals as goal
+use Rattle.message_store.proofs.prepared_store.PreparedStore.apply_opened.Goals as goal
 
 pub returns : goal.returns
 returns c =
