@@ -5,10 +5,9 @@ ghost use Rattle.run_laws.specs.ValidRun.{IsValidWorld};
 ghost use Rattle.queue_rows.specs.World.{read_clock};
 ghost use Rattle.aq_world.specs.Going.{GoesQuietly};
 
-use aq_base::DbId;
 use aq_disk::Disk;
 use durable_state::DurableState;
-use next_steps::due_at;
+use next_steps::{DueWork, due_work};
 use std::alloc::AllocError;
 
 /// Does the work that is due, and tells whether there was any. At want of memory all is as before.
@@ -20,11 +19,10 @@ pub fn catch_up<D: Disk>(state: &mut DurableState<D>, actor: u32) -> Result<bool
     ensures err { OnErr result (state.new.world ≡ state.old.world) }
     ensures disks { GoesQuietly actor D.seen D.is_image D.calls D.faults state.old state.new }
 {
-    let home = due_at(state.run(), DbId::Home)?;
-    let away = due_at(state.run(), DbId::Away)?;
-    if home.is_empty() && away.is_empty() {
+    let Some(work) = due_work(state.run())? else {
         return Ok(false);
-    }
+    };
+    let DueWork { home, away } = work;
     state.time(actor, home, away)?;
     Ok(true)
 }

@@ -1,5 +1,6 @@
 pub mod Calls
 pub mod Doings
+pub mod Early
 pub mod Numbers
 pub mod Pends
 pub mod Sendings

@@ -7,6 +7,6 @@ mod respond;
 mod sending;
 
 pub use calling::next_doing;
-pub use due::due_at;
+pub use due::{DueWork, due_work};
 pub use respond::Doing;
 pub use sending::{Sending, may_follow, next_sending};

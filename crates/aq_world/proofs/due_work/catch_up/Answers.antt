@@ -1,14 +1,11 @@
 use Rattle.aq_world.proofs.Goings.{quiet_by, quiet_same}
 use Rattle.aq_world.proofs.due_work.catch_up.Goals as goal
 
-pub returns-in_err-home-clause-disks : goal.returns-in_err-home-clause-disks
-returns-in_err-home-clause-disks g c = quiet_same _
+pub returns-in_err-work-clause-disks : goal.returns-in_err-work-clause-disks
+returns-in_err-work-clause-disks g c = quiet_same _
 
-pub returns-in_err-away-clause-disks : goal.returns-in_err-away-clause-disks
-returns-in_err-away-clause-disks g c = quiet_same _
-
-pub returns-then-is_empty-2-clause-disks : goal.returns-then-is_empty-2-clause-disks
-returns-then-is_empty-2-clause-disks g c = quiet_same _
+pub returns-in_default-clause-disks : goal.returns-in_default-clause-disks
+returns-in_default-clause-disks g c = quiet_same _
 
 pub returns-in_err-time-clause-disks : goal.returns-in_err-time-clause-disks
 returns-in_err-time-clause-disks g c = quiet_by _ _ c.time.ensures.disks c.time.ensures.adds c.time.ensures.fine
