@@ -88,7 +88,8 @@ fn visibility_given(member: Option<&Value>) -> Result<Visibility, LineFault>
 
 #[tactic(auto, unfolding(crate::specs::Plain::plain_enqueue))]
 fn plain_enqueue(alloc: Global, members: PlainMembers<'_>) -> Result<Enqueue, LineFault>
-    ensures ok { IfOk result (λ ask. plain_enqueue (view members.entry.payload.now) (view members.entry.queue.now)
+    ensures ok { IfOk result (λ ask. plain_enqueue
+        (view members.entry.payload.now) (view members.entry.queue.now)
         (option_map (λ v. view v.now) members.entry.visibility) ≡ Some ask) }
     ensures within { IfOk result (λ ask. is_enqueue_within ask ≡ true) }
     ensures bad { IsErrOf result LineFault.Bad → plain_enqueue (view members.entry.payload.now)
@@ -115,7 +116,8 @@ fn plain_enqueue(alloc: Global, members: PlainMembers<'_>) -> Result<Enqueue, Li
 
 #[tactic(auto, unfolding(crate::specs::Plain::plain_asking, queue_rows::specs::Within::is_within))]
 fn plain_asking(alloc: Global, members: PlainMembers<'_>) -> Result<Line, LineFault>
-    ensures ok { IfOk result (λ l. plain_asking (view members.entry.payload.now) (view members.entry.queue.now)
+    ensures ok { IfOk result (λ l. plain_asking
+        (view members.entry.payload.now) (view members.entry.queue.now)
         (view members.entry.session.now) (option_map (λ v. view v.now) members.entry.visibility) ≡ Some l) }
     ensures readable { IfOk result IsReadableLine }
     ensures bad { IsErrOf result LineFault.Bad → plain_asking (view members.entry.payload.now)
