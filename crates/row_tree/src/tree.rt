@@ -99,21 +99,24 @@ struct First<T> {
 
 impl<T> Tree<T> {
     /// The row at an index that counts from 0, or None past the end. It takes no memory.
-    pub fn get(&self, at: usize) -> Option<&T>
+    pub fn get(&self, mut at: usize) -> Option<&T>
         ensures { option_copied result ≡ slice_get self.now at }
     {
-        let Some(fork) = &self.root else {
-            return None;
-        };
-        let fork: &Fork<T> = fork;
-        let before = fork.left.len();
-        if at < before {
-            fork.left.get(at)
-        } else if at == before {
-            fork.row.as_ref()
-        } else {
-            fork.right.get(at - before - 1)
+        let mut tree = self;
+        'forks: while let Some(fork) = &tree.root {
+            let fork: &Fork<T> = fork;
+            let before = fork.left.len();
+            if at < before {
+                tree = &fork.left;
+                continue;
+            }
+            if at == before {
+                return fork.row.as_ref();
+            }
+            at = at - before - 1;
+            tree = &fork.right;
         }
+        None
     }
 }
 
@@ -133,16 +136,18 @@ impl<T: InOrder> Tree<T> {
         ensures { result ≡ prefix_len (is_before (B.standing bound.now)) self.now }
     {
         let _most = self.len();
-        let Some(fork) = &self.root else {
-            return 0;
-        };
-        let fork: &Fork<T> = fork;
-        let Some(row) = &fork.row else { unreachable!() };
-        if bound.standing(row).is_lt() {
-            fork.left.len() + 1 + fork.right.rank(bound)
-        } else {
-            fork.left.rank(bound)
+        let (mut tree, mut past) = (self, 0);
+        'forks: while let Some(fork) = &tree.root {
+            let fork: &Fork<T> = fork;
+            let Some(row) = &fork.row else { unreachable!() };
+            if bound.standing(row).is_lt() {
+                past += fork.left.len() + 1;
+                tree = &fork.right;
+                continue;
+            }
+            tree = &fork.left;
         }
+        past
     }
 }
 

@@ -1,4 +1,0 @@
-use Rattle.row_tree.proofs.tree.Tree.+rank.Given as goal
-
-abbrev pub decreases-rank : goal.decreases-rank
-decreases-rank g l = goal.size-rank g l
