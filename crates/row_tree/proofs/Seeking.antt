@@ -1,6 +1,7 @@
 -- The first row that does not pass, by what stands at a root.
-use Rattle.std.proofs.Common.{◌≡◌, ◌≢◌, Bool, true, false, cond, not, List, [], ◌∷◌, ◌++◌, Option, Some, None, Bor, option_copied, refl, ap, ◌∙◌}
+use Rattle.std.proofs.Common.{◌≡◌, Bool, true, false, cond, not, List, [], ◌∷◌, ◌++◌, Option, Some, None, refl, ap, ◌∙◌}
 use Rattle.std.specs.List.{find}
+use Rattle.std.specs.Option.{option_map_or, option_or}
 use Rattle.std.specs.Ordering.{is_lt, is_eq}
 use Rattle.std.specs.declared.cmp.Ordering.{Ordering}
 use Rattle.std.specs.declared.cmp.Ordering.TheVariants.{Less, Equal, Greater}
@@ -19,26 +20,21 @@ on_the_right p (x ∷ l) k r passes split =
     let first : p x ≡ true = head_passes p (p x) l k r split.0 passes in
     ap (λ b. cond (not b) (Some x) (find (λ y. not (p y)) (l ++ (k ∷ r)))) first ∙ on_the_right p l k r passes split.1
 
--- of a root that does not pass it stands on the left, or it is the root's own
-on_the_left : {T : Type 0} (q : T → Bool) (l r : List T) (x : T) → find q l ≡ Some x → find q (l ++ r) ≡ Some x
-on_the_left q [] r x is = cc is
-on_the_left q (y ∷ l) r x is =
-    let P : Bool → Type 0 = λ b. cond b (Some y) (find q l) ≡ Some x → cond b (Some y) (find q (l ++ r)) ≡ Some x in
-    elim (q y) as P [ true ↦ λ e. e | false ↦ λ e. on_the_left q l r x e ] is
+-- of a root that does not pass it is the first one on the left, and else the root's own
+pub or_the_root : {T : Type 0} (q : T → Bool) (l : List T) (k : T) (r : List T) → q k ≡ true → find q (l ++ (k ∷ r)) ≡ option_or (find q l) (Some k)
+or_the_root q [] k r fails = ap (λ b. cond b (Some k) (find q r)) fails
+or_the_root q (y ∷ l) k r fails =
+    let P : Bool → Type 0 = λ b. cond b (Some y) (find q (l ++ (k ∷ r))) ≡ option_or (cond b (Some y) (find q l)) (Some k) in
+    elim (q y) as P [ true ↦ refl | false ↦ or_the_root q l k r fails ]
 
-pub before_root : {T : Type 0} (q : T → Bool) (l r : List T) (found : Option T) → find q l ≡ found → found ≢ None → find q (l ++ r) ≡ found
-before_root q l r None is some = absurd (some refl)
-before_root q l r (Some x) is some = on_the_left q l r x is
+-- one that was found before is passed over
+pub passed_over : {T : Type 0} (found : Option T) (k : T) (earlier : Option T) → option_or (option_or found (Some k)) earlier ≡ option_or found (Some k)
+passed_over None k earlier = refl
+passed_over (Some x) k earlier = refl
 
-pub still_some : {T : Type 0} (found : Option (Bor T)) → found ≢ None → option_copied found ≢ None
-still_some None some = λ e. some refl
-still_some (Some row) some = λ e. cc e
-
-pub at_the_root : {T : Type 0} (q : T → Bool) (l : List T) (k : T) (r : List T) → q k ≡ true → find q l ≡ None → find q (l ++ (k ∷ r)) ≡ Some k
-at_the_root q [] k r fails none = ap (λ b. cond b (Some k) (find q r)) fails
-at_the_root q (y ∷ l) k r fails none =
-    let P : Bool → Type 0 = λ b. cond b (Some y) (find q l) ≡ None → cond b (Some y) (find q (l ++ (k ∷ r))) ≡ Some k in
-    elim (q y) as P [ true ↦ λ e. cc e | false ↦ λ e. at_the_root q l k r fails e ] none
+pub asked_of : {T : Type 0} (f : T → Bool) (found : Option T) (k : T) (d : Bool) → option_map_or f (option_or found (Some k)) d ≡ option_map_or f found (f k)
+asked_of f None k d = refl
+asked_of f (Some x) k d = refl
 
 -- in rows in their order the one at a bound is the first that does not stand before it, if that one stands there
 pub at_first : {T : Type 0} {order : T → T → Ordering} (standing : T → Ordering) → Falls order standing → (xs : List T) → IsRising order xs

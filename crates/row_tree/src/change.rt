@@ -10,30 +10,29 @@ use crate::tree::Fork;
 use crate::{Bound, Change, InOrder, Tree};
 
 impl<T: InOrder> Tree<T> {
-    // How many rows stand before the bound, and whether the next one stands at it: a search that goes down once.
-    pub(crate) fn seat<B: Bound<T>>(&self, bound: &B) -> (usize, bool)
+    /// How many rows stand before the first one that does not stand before the bound, and whether that one stands at it. It goes down
+    /// once, and takes no memory.
+    pub fn seat<B: Bound<T>>(&self, bound: &B) -> (usize, bool)
         requires { IsSplit (is_before (B.standing bound.now)) self.now }
         ensures rank { result.0 ≡ prefix_len (is_before (B.standing bound.now)) self.now }
         ensures at { result.1 ≡
             option_map_or (is_at (B.standing bound.now)) (slice_get self.now result.0) false }
     {
         let _most = self.len();
-        let Some(fork) = &self.root else {
-            return (0, false);
-        };
-        let fork: &Fork<T> = fork;
-        let Some(row) = &fork.row else { unreachable!() };
-        let standing = bound.standing(row);
-        if standing.is_lt() {
-            let (past, is_there) = fork.right.seat(bound);
-            return (fork.left.len() + 1 + past, is_there);
+        let (mut tree, mut past, mut is_there) = (self, 0, false);
+        'forks: while let Some(fork) = &tree.root {
+            let fork: &Fork<T> = fork;
+            let Some(row) = &fork.row else { unreachable!() };
+            let standing = bound.standing(row);
+            if standing.is_lt() {
+                past += fork.left.len() + 1;
+                tree = &fork.right;
+                continue;
+            }
+            is_there = standing.is_eq();
+            tree = &fork.left;
         }
-        let (at, is_there) = fork.left.seat(bound);
-        if at < fork.left.len() {
-            (at, is_there)
-        } else {
-            (at, standing.is_eq())
-        }
+        (past, is_there)
     }
 }
 

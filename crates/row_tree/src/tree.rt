@@ -158,18 +158,18 @@ impl<T: InOrder> Tree<T> {
         requires { IsSplit (is_before (B.standing bound.now)) self.now }
         ensures { option_copied result ≡ find (is_not_before (B.standing bound.now)) self.now }
     {
-        let Some(fork) = &self.root else {
-            return None;
-        };
-        let fork: &Fork<T> = fork;
-        let Some(row) = &fork.row else { unreachable!() };
-        if bound.standing(row).is_lt() {
-            return fork.right.first_from(bound);
+        let (mut tree, mut first) = (self, None);
+        'forks: while let Some(fork) = &tree.root {
+            let fork: &Fork<T> = fork;
+            let Some(row) = &fork.row else { unreachable!() };
+            if bound.standing(row).is_lt() {
+                tree = &fork.right;
+                continue;
+            }
+            first = Some(row);
+            tree = &fork.left;
         }
-        match fork.left.first_from(bound) {
-            None => Some(row),
-            found => found,
-        }
+        first
     }
 }
 

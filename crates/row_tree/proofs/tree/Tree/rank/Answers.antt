@@ -1,4 +1,4 @@
-use Rattle.std.proofs.Common.{◌≡◌, ◌+◌, ◌≤◌, ◌∷◌, Bool, false, true, is_lt, arith, ap, ◌∙◌}
+use Rattle.std.proofs.Common.{◌≡◌, ◌+◌, ◌∷◌, Bool, false, true, is_lt, arith, ap, ◌∙◌}
 use Rattle.std.specs.List.{prefix_len}
 use Rattle.row_tree.proofs.AtRoot.{at_root}
 use Rattle.row_tree.proofs.Splits.{split_left, split_right, prefix_left, prefix_right}
