@@ -1,10 +1,10 @@
 -- What is told of ids by their stamps, and how it follows the entries.
-use Rattle.std.proofs.Common.{◌≡◌, ℕ, zero, suc, ◌+◌, ◌<◌, ◌≤◌, List, [], ◌∷◌, ◌++◌, map, take, drop, length, Bool, true, false, cond, not, inl, inr, Option, Some, None, ◌==◌, nat_lt, refl, sym, ap, ◌∙◌, subst, arith, get_or, append-nil, length-append, drop-cons}
+use Rattle.std.proofs.Common.{◌≡◌, ◌≢◌, ℕ, zero, suc, ◌+◌, ◌<◌, ◌≤◌, List, [], ◌∷◌, ◌++◌, map, take, drop, length, Bool, true, false, cond, not, inl, inr, Option, Some, None, ◌==◌, nat_lt, refl, sym, ap, ◌∙◌, subst, arith, eq-eqb, get_or, append-nil, length-append, drop-cons}
 use Rattle.std.specs.Prelude.{All, position, remove, count_by, filter, slice_get}
 use Rattle.std.specs.Option.{option_map_or}
 use Rattle.std.specs.List.{AllByRecursion, prefix_len, position_or_len}
 use Rattle.std.specs.Cmp.{nat_cmp_is}
-use Rattle.std.specs.Ordering.{is_lt, nat_cmp}
+use Rattle.std.specs.Ordering.{is_eq, is_lt, nat_cmp}
 use Rattle.std.specs.declared.cmp.Ordering.TheVariants.{Less, Equal, Greater}
 use Rattle.std.proofs.lemmas.Bool.{cases_eq, cases_Bool, lt-ltb, le-ltb, ltb-true, ltb-false, ne_eqb, eqb-false}
 use Rattle.std.proofs.lemmas.List.{take-append-drop, map-append, take-map, drop-map, length-map, nil_from_length}
@@ -12,7 +12,7 @@ use Rattle.std.proofs.lemmas.List.Elements.{All-append, All-drop, All-filter, Al
 use Rattle.std.proofs.lemmas.List.Folds.{fold-map}
 use Rattle.std.proofs.lemmas.List.Sums.{length-filter}
 use Rattle.std.proofs.lemmas.Option.{none-some, slice_get_within}
-use Rattle.row_tree.specs.Bounds.{is_before}
+use Rattle.row_tree.specs.Bounds.{is_at, is_before}
 use Rattle.row_tree.specs.Split.{NonePass, IsSplit}
 use Rattle.message_index.specs.StampOrder.{to_stamp}
 use Rattle.message_index.specs.Stamped.{AreStamps, Rise}
@@ -34,6 +34,18 @@ lower : (s : ℕ) (e : Entry) → is_before (to_stamp s) e ≡ nat_lt e.stamp s
 lower s e = elim (cases_Bool (nat_lt e.stamp s)) [
   | inl is ↦ less e.stamp s (ltb-true e.stamp s is) ∙ sym is
   | inr is ↦ not_less e.stamp s (ltb-false e.stamp s is) ∙ sym is
+]
+
+unequal : (a b : ℕ) → a ≢ b → is_eq (nat_cmp a b) ≡ false
+unequal a b other = elim (cases_Bool (nat_lt a b)) [
+  | inl below ↦ ap is_eq (sym (nat_cmp_is a b Less (ltb-true a b below)))
+  | inr past ↦ let least : b ≤ a = ltb-false a b past in ap is_eq (sym (nat_cmp_is a b Greater (omega arith)))
+]
+
+its_own : (s : ℕ) (e : Entry) → is_at (to_stamp s) e ≡ (e.stamp == s)
+its_own s e = elim (cases_eq e.stamp s) [
+  | inl same ↦ ap is_eq (sym (nat_cmp_is e.stamp s Equal same)) ∙ sym (eq-eqb e.stamp s same)
+  | inr other ↦ unequal e.stamp s other ∙ sym (ne_eqb e.stamp s other)
 ]
 
 -- the tail of rising entries rises
@@ -312,15 +324,29 @@ module _ (s : ℕ) (es : List Entry) (rising : AreRising es) where
       let past : nat_lt n n ≡ false = le-ltb n n (omega arith) in
       ap (λ b. cond b (Some n) None) (sym past) ∙ placed s n es is
 
-  pub rank_none : slice_get es (prefix_len (λ e. nat_lt e.stamp s) es) ≡ None → None ≡ position (λ k. k == s) (stamps_in es)
+  rank_none : slice_get es (prefix_len (λ e. nat_lt e.stamp s) es) ≡ None → None ≡ position (λ k. k == s) (stamps_in es)
   rank_none none = past_all (told_by None none)
 
-  pub rank_other : (e : Entry) → slice_get es (prefix_len (λ e. nat_lt e.stamp s) es) ≡ Some e → (e.stamp == s) ≡ false → None ≡ position (λ k. k == s) (stamps_in es)
+  rank_other : (e : Entry) → slice_get es (prefix_len (λ e. nat_lt e.stamp s) es) ≡ Some e → (e.stamp == s) ≡ false → None ≡ position (λ k. k == s) (stamps_in es)
   rank_other e there other = past_all (told_by (Some e) there ∙ ap (λ b. cond b (prefix_len (λ e. nat_lt e.stamp s) es) (length es)) other)
 
-  pub rank_some : (e : Entry) → slice_get es (prefix_len (λ e. nat_lt e.stamp s) es) ≡ Some e → (e.stamp == s) ≡ true
+  rank_some : (e : Entry) → slice_get es (prefix_len (λ e. nat_lt e.stamp s) es) ≡ Some e → (e.stamp == s) ≡ true
       → Some (prefix_len (λ e. nat_lt e.stamp s) es) ≡ position (λ k. k == s) (stamps_in es)
   rank_some e there same =
       let n = prefix_len (λ e. nat_lt e.stamp s) es in
       let inside : nat_lt n (length es) ≡ true = lt-ltb n (length es) (slice_get_within es n e there) in
       ap (λ b. cond b (Some n) None) (sym inside) ∙ placed s n es (told_by (Some e) there ∙ ap (λ b. cond b n (length es)) same)
+
+  rank_by : (o : Option Entry) (b : Bool) → slice_get es (prefix_len (λ e. nat_lt e.stamp s) es) ≡ o → option_map_or (is_at (to_stamp s)) o false ≡ b
+      → cond b (Some (prefix_len (λ e. nat_lt e.stamp s) es)) None ≡ position (λ k. k == s) (stamps_in es)
+  rank_by None b is there = ap (λ b. cond b (Some (prefix_len (λ e. nat_lt e.stamp s) es)) None) (sym there) ∙ rank_none is
+  rank_by (Some e) true is there = rank_some e is (sym (its_own s e) ∙ there)
+  rank_by (Some e) false is there = rank_other e is (sym (its_own s e) ∙ there)
+
+  -- where a search for the stamp stops, it stands or nowhere
+  pub rank_told : (at : ℕ) (b : Bool) → at ≡ prefix_len (is_before (to_stamp s)) es → b ≡ option_map_or (is_at (to_stamp s)) (slice_get es at) false
+      → cond b (Some at) None ≡ position (λ k. k == s) (stamps_in es)
+  rank_told at b here there =
+      let counts = here ∙ counted s es in
+      let own = there ∙ ap (λ n. option_map_or (is_at (to_stamp s)) (slice_get es n) false) counts in
+      ap (λ n. cond b (Some n) None) counts ∙ rank_by (slice_get es (prefix_len (λ e. nat_lt e.stamp s) es)) b refl (sym own)

@@ -140,11 +140,8 @@ impl MessageIndex {
     pub fn rank(&self, stamp: u64) -> Option<usize>
         ensures { result ≡ position (λ s. s == stamp) self.now.stamps }
     {
-        let at = count_before(&self.entries, stamp);
-        let Some(entry) = self.entries.get(at) else {
-            return None;
-        };
-        if entry.stamp == stamp { Some(at) } else { None }
+        let (at, is_there) = self.entries.seat(&AtStamp { stamp });
+        if is_there { Some(at) } else { None }
     }
 
     /// Whether at most one stands there with that id. It may say no where that is so, and yes only where it is
