@@ -1,7 +1,7 @@
 // Measures the calls of row locks at few and at many marks.
 use crate::fault::{Fault, right};
 use crate::timing::{Least, a_call};
-use payload_records::Name;
+use payload_records::{Boxed, Name};
 use row_locks::{Group, Mark, RowLocks};
 use std::alloc::Global;
 use std::time::{Clock, Instant};
@@ -26,14 +26,15 @@ struct Costs {
 
 // ---- the marks, and the order in which they are asked for
 
-fn group(alloc: Global, id: u64) -> Result<Group, Fault> {
+fn group(alloc: Global, id: u64) -> Result<Boxed<Group>, Fault> {
     let queue = Name::read(alloc, "orders")?;
     let consumer = Some(Name::read(alloc, "billing")?);
-    Ok(Group {
+    let group = Group {
         queue,
         number: id,
         consumer,
-    })
+    };
+    Ok(Boxed::new(alloc, group)?)
 }
 
 fn mark(alloc: Global, id: u64) -> Result<Mark, Fault> {

@@ -8,7 +8,7 @@ use crate::answered::{give_nothing, refuse};
 use crate::given::give;
 use crate::request::{Asked, Request};
 use message_choice::{Choice, ChoosesMessages, Claim, Pick, claim};
-use payload_records::{Copied, List, Name};
+use payload_records::{Boxed, Copied, List, Name};
 use queue_rows::{MessageTables, MsgId, MsgRow, Position, Reply};
 use sessions::{Effect, PositionMove};
 use sort_index::Steps;
@@ -110,15 +110,16 @@ fn give_named<T: MessageTables>(
 // ---- by navigation
 
 // The session stands at the message that it was given.
-fn position_at(request: &Request<'_>, message: &MsgRow) -> Result<Position, AllocError>
+fn position_at(request: &Request<'_>, message: &MsgRow) -> Result<Boxed<Position>, AllocError>
     ensures { IfOk result (λ p. p ≡ position_at request.now message.now) }
 {
-    Ok(Position {
+    let position = Position {
         queue: request.ask.queue.copied()?,
         consumer: Copied::copied(&request.ask.consumer)?,
         place: message.place.copied()?,
         group: message.group,
-    })
+    };
+    Boxed::new(request.alloc, position)
 }
 
 fn choose<'a, T: ChoosesMessages, L: Ledger>(

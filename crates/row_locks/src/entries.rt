@@ -84,7 +84,7 @@ fn has_names(mark: &Mark, queue: &Name, consumer: Option<&Name>) -> bool
 {
     match &mark.group {
         None => false,
-        Some(group) => mark.is_in_group(queue, group.number, consumer),
+        Some(group) => mark.is_in_group(queue, group.get().number, consumer),
     }
 }
 

@@ -64,7 +64,7 @@ pub(crate) fn mark_key(mark: &Mark) -> Option<GroupKey>
 {
     match &mark.group {
         None => None,
-        Some(group) => Some(key_of_group(group)),
+        Some(group) => Some(key_of_group(group.get())),
     }
 }
 

@@ -14,7 +14,7 @@ use crate::tables::{
     find_holder, free_all_at, keep_at, leave_group, leave_groups, prepare, put_at, release_all_at,
     release_at, reserve_at, spare_at,
 };
-use payload_records::{List, Name};
+use payload_records::{Boxed, List, Name};
 use slot_marks::{Group, Mark};
 use std::alloc::{AllocError, Global};
 use std::marker::Model;
@@ -256,7 +256,7 @@ impl RowLocks {
         other_than(session, holder)
     }
 
-    fn holder_of_group(&self, group: &Option<Group>) -> Option<u32>
+    fn holder_of_group(&self, group: &Option<Boxed<Group>>) -> Option<u32>
         ensures some { IfSome result (HasGroup self.now group.now) }
         ensures none { IfNone result (IsFreeGroup self.now group.now) }
         ensures once { AreHeldOnce self.now }
@@ -264,11 +264,14 @@ impl RowLocks {
         let _ = &self.sessions;
         match group {
             None => None,
-            Some(group) => self.group_holder(GroupRef {
-                queue: &group.queue,
-                number: group.number,
-                consumer: group.consumer.as_ref(),
-            }),
+            Some(group) => {
+                let group = group.get();
+                self.group_holder(GroupRef {
+                    queue: &group.queue,
+                    number: group.number,
+                    consumer: group.consumer.as_ref(),
+                })
+            }
         }
     }
 

@@ -167,6 +167,7 @@ fn enter_group(
     let Some(group) = &mark.group else {
         return None;
     };
+    let group = group.get();
     let key = key_of_group(group);
     let differs = differs_from_class(tables, groups, key.names, group);
     Some(groups.put(key, place, differs))

@@ -4,7 +4,7 @@ ghost use Rattle.std.specs.Prelude.{◌<◌};
 use crate::commits::commit;
 use crate::rows::{arrival, facts_of, message_of, slot_of};
 use message_store::PreparedStore;
-use payload_records::{List, Name, Text};
+use payload_records::{Boxed, List, Name, Text};
 use place_keys::Place;
 use queue_rows::{Change, MsgRow, SlotRow, SlotState};
 use row_locks::RowLocks;
@@ -114,17 +114,18 @@ pub fn fill(store: &mut PreparedStore, seed: &mut u32, alloc: Global) -> Result<
 
 // ---- marks
 
-fn any_group(seed: &mut u32, alloc: Global, grouped: bool) -> Result<Option<Group>, Fail> {
+fn any_group(seed: &mut u32, alloc: Global, grouped: bool) -> Result<Option<Boxed<Group>>, Fail> {
     if !grouped {
         return Ok(None);
     }
     let queue = any_queue(seed, alloc)?;
     let consumer = any_name(seed, alloc)?;
-    Ok(Some(Group {
+    let group = Group {
         queue,
         number: 1 + u64::from(below(seed, 3)),
         consumer,
-    }))
+    };
+    Ok(Some(Boxed::new(alloc, group)?))
 }
 
 fn any_mark(seed: &mut u32, alloc: Global, grouped: bool) -> Result<Mark, Fail> {

@@ -3,7 +3,7 @@ use crate::rows::{Home, SlotOf, store_of};
 use crate::{calls, texts};
 use aq_base::DbId;
 use message_store::PreparedStore;
-use payload_records::Name;
+use payload_records::{Boxed, Name};
 use queue_rows::SlotRef;
 use queue_rows::SlotState::{Dropped, Expired, Processed, Ready, Waiting};
 use row_locks::RowLocks;
@@ -104,17 +104,18 @@ const CASES: [Case; 17] = [
     ),
 ];
 
-fn group(alloc: Global) -> Result<Group, Fail> {
+fn group(alloc: Global) -> Result<Boxed<Group>, Fail> {
     let queue = Name::read(alloc, "mq")?;
     let consumer = Name::read(alloc, "r")?;
-    Ok(Group {
+    let group = Group {
         queue,
         number: 1,
         consumer: Some(consumer),
-    })
+    };
+    Ok(Boxed::new(alloc, group)?)
 }
 
-fn mark(id: u64, slot: u32, group: Option<Group>) -> Mark {
+fn mark(id: u64, slot: u32, group: Option<Boxed<Group>>) -> Mark {
     Mark {
         id,
         slot,

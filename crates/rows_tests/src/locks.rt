@@ -1,20 +1,21 @@
 // Who holds a slot or a group, and what is freed.
-use payload_records::{List, Name, NameFault};
+use payload_records::{Boxed, List, Name, NameFault};
 use row_locks::{LockFault, RowLocks};
 use slot_marks::{Group, Mark};
 use std::alloc::Global;
 
-fn group(alloc: Global, number: u64) -> Result<Group, NameFault> {
+fn group(alloc: Global, number: u64) -> Result<Boxed<Group>, NameFault> {
     let queue = Name::read(alloc, "q")?;
     let consumer = Some(Name::read(alloc, "c")?);
-    Ok(Group {
+    let group = Group {
         queue,
         number,
         consumer,
-    })
+    };
+    Ok(Boxed::new(alloc, group)?)
 }
 
-fn mark(id: u64, group: Option<Group>) -> Mark {
+fn mark(id: u64, group: Option<Boxed<Group>>) -> Mark {
     Mark {
         id,
         slot: 1,

@@ -50,7 +50,7 @@ fn is_on(mark: &Mark, message: &MsgRow, slot: u32) -> bool {
         || mark
             .group
             .as_ref()
-            .is_some_and(|group| is_of_group(group, message, consumer))
+            .is_some_and(|group| is_of_group(group.get(), message, consumer))
 }
 
 fn has_mark(locks: &RowLocks, session: u32, message: &MsgRow, slot: u32) -> bool {

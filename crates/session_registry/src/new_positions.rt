@@ -1,5 +1,5 @@
 // What a call makes of the positions of its session.
-use payload_records::List;
+use payload_records::{Boxed, List};
 use queue_rows::Position;
 
 /// The positions that a session has after a call.
@@ -12,7 +12,7 @@ pub enum NewPositions {
         /// The place among them, counted from 0.
         at: usize,
         /// The position there.
-        position: Position,
+        position: Boxed<Position>,
     },
     /// These.
     Others(List<Position>),

@@ -6,7 +6,7 @@ ghost use Rattle.sessions.specs.Effects.{positions_after};
 ghost use Rattle.session_registry.specs.Sessions.{elsewhere, positions_by};
 
 use crate::new_positions::NewPositions;
-use payload_records::{Copied, List, Name};
+use payload_records::{Boxed, Copied, List, Name};
 use queue_rows::Position;
 use sessions::PositionMove;
 use std::alloc::AllocError;
@@ -44,17 +44,17 @@ fn place_of(positions: &List<Position>, wanted: &Position) -> Option<usize>
 }
 
 /// The positions with that one in the place of one in the same queue for the same consumer. It takes no memory where there is one.
-fn with(positions: &List<Position>, given: Position) -> Result<NewPositions, AllocError>
+fn with(positions: &List<Position>, given: Boxed<Position>) -> Result<NewPositions, AllocError>
     ensures { IfOk result (λ new. positions_by new positions.now ≡ positioned given positions.now) }
 {
-    match place_of(positions, &given) {
+    match place_of(positions, given.get()) {
         Some(at) => Ok(NewPositions::Replaced {
             at,
             position: given,
         }),
         None => {
             let mut others = positions.copied()?;
-            others.push(given)?;
+            others.push(given.into_inner())?;
             Ok(NewPositions::Others(others))
         }
     }

@@ -61,7 +61,9 @@ fn call(session: &mut SessionState, positions: NewPositions, home: u64, away: u6
 {
     match positions {
         NewPositions::Same => {}
-        NewPositions::Replaced { at, position } => replace(&mut session.positions, at, position),
+        NewPositions::Replaced { at, position } => {
+            replace(&mut session.positions, at, position.into_inner())
+        }
         NewPositions::Others(others) => session.positions = others,
     }
     session.next += 1;

@@ -4,7 +4,7 @@ ghost use Rattle.sessions.specs.Effects.{plain_effect};
 ghost use Rattle.sessions.specs.declared.state.Verdict.TheVariants.{Answer};
 
 use aq_base::DbId;
-use payload_records::List;
+use payload_records::{Boxed, List};
 use queue_rows::{Change, Pending, Position, Reply};
 use slot_marks::Mark;
 use std::alloc::Global;
@@ -108,6 +108,6 @@ pub enum PositionMove {
     Keep,
     /// It stands nowhere any more in the queue that was asked, for the consumer that was.
     Forget,
-    /// It stands there in that queue.
-    Set(Position),
+    /// It stands there in that queue. Most statements move nothing, so what one sets stands on the heap.
+    Set(Boxed<Position>),
 }

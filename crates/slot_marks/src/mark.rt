@@ -4,7 +4,7 @@ ghost use Rattle.std.specs.Option.{option_eq};
 ghost use Rattle.std.specs.Str.{bytes_eq};
 ghost use Rattle.slot_marks.specs.Marks.{group_of, is_on, is_in_group};
 
-use payload_records::{Copied, Name};
+use payload_records::{Boxed, Copied, Name};
 use std::alloc::AllocError;
 
 /// The messages of one commit in a grouped queue, as one consumer sees them.
@@ -27,7 +27,7 @@ impl Drop for Group {
     }
 }
 
-/// A session's mark on a slot of a message.
+/// A session's mark on a slot of a message. Few queues are grouped, so a group stands on the heap.
 #[derive(Drop)]
 pub struct Mark {
     /// The message's id.
@@ -37,7 +37,7 @@ pub struct Mark {
     /// Whether the session has removed the slot, and not only locked it.
     pub removed: bool,
     /// The group of the slot, where its queue is grouped.
-    pub group: Option<Group>,
+    pub group: Option<Boxed<Group>>,
 }
 
 impl Copied for Group {
@@ -86,6 +86,7 @@ impl Mark {
         match &self.group {
             None => false,
             Some(own) => {
+                let own = own.get();
                 own.number == number
                     && own.queue == *queue
                     && is_same_consumer(&own.consumer, consumer)
