@@ -19,11 +19,15 @@ visibility_member (Some d) = member (codes "visibility") d no_members
 -- its members, in the order of their keys
 abbrev pub plain_line : Data → Data → Data → Option Data → Data
 plain_line payload queue session visibility =
-    object (member (codes "do") (string (codes "enqueue")) (member (codes "payload") payload (member (codes "queue") queue (member (codes "s") session (visibility_member visibility)))))
+    object (member (codes "do") (string (codes "enqueue"))
+    (member (codes "payload") payload
+    (member (codes "queue") queue (member (codes "s") session (visibility_member visibility)))))
 
 -- what a visibility says that may be left out or null
 abbrev pub visibility_given : Option Data → Option Visibility
-visibility_given said = or_default OnCommit visibility_in (option_and_then (λ m. if is_some (as_null m) then None else Some m) said)
+visibility_given said =
+    or_default OnCommit visibility_in
+    (option_and_then (λ m. if is_some (as_null m) then None else Some m) said)
 
 -- what it asks
 unfoldable pub plain_enqueue : Data → Data → Option Data → Option Enqueue

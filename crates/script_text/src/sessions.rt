@@ -24,7 +24,7 @@ pub struct Sessions {
     names: IndexSet<Name>,
     list: Vec<SessionScript>,
     asked: usize,
-    lines: usize,
+    most: usize,
     last: usize,
 }
 
@@ -34,7 +34,7 @@ impl Drop for Sessions {
             names: _,
             list: _,
             asked: _,
-            lines: _,
+            most: _,
             last: _,
         } = self;
     }
@@ -96,14 +96,14 @@ fn share_room(sessions: &mut [SessionScript], statements: usize)
 
 impl Sessions {
     /// No session, before a text of that many statements at most is read.
-    pub fn new(alloc: Global, lines: usize) -> Sessions
+    pub fn new(alloc: Global, statements: usize) -> Sessions
         ensures { result ≡ [] }
     {
         Sessions {
             names: IndexSet::new(alloc),
             list: Vec::new(alloc),
             asked: 0,
-            lines,
+            most: statements,
             last: 0,
         }
     }
@@ -114,7 +114,7 @@ impl Sessions {
         ensures { self.new ≡ self.old }
     {
         if self.asked == 0 {
-            share_room(&mut self.list, self.lines.min(STATEMENT_LIMIT));
+            share_room(&mut self.list, self.most.min(STATEMENT_LIMIT));
         }
     }
 
@@ -265,7 +265,7 @@ impl Sessions {
             names: _,
             list,
             asked: _,
-            lines: _,
+            most: _,
             last: _,
         } = self;
         List::from_vec(list)
