@@ -1,5 +1,6 @@
--- What holds of each row holds of the one that is found, and of each where a row is changed.
-use Rattle.std.proofs.Common.{ℕ, List, [], ◌∷◌, Bool, All, inl, inr, IfSome, suc, zero, Option, Some, None}
+-- What holds of each row holds of the one that is found, and of each where a row is changed; and how all rows are changed one
+-- by one.
+use Rattle.std.proofs.Common.{◌≡◌, ℕ, List, [], ◌∷◌, ◌++◌, Bool, All, inl, inr, IfSome, suc, zero, Option, Some, None, map, take, drop, refl, ap, ◌∙◌}
 use Rattle.std.specs.Prelude.{find, position, slice_get}
 use Rattle.std.proofs.lemmas.Bool.{cases_Bool}
 use Rattle.std.proofs.lemmas.List.Elements.{All-head, All-set, All-tail}
@@ -31,3 +32,24 @@ module _ {X : Type 0} where
 
   pub first_each : (P : X → Type 0) (is_it : X → Bool) (f : X → X) (xs : List X) → ((x : X) → P x → P (f x)) → All P xs → All P (changed_first is_it f xs)
   first_each P is_it f xs keeps all = at_each P f (position is_it xs) xs keeps all
+
+  -- ---- from the last row to the first
+
+  some_behind : (x : X) (xs : List X) (i : ℕ) (o : Option X) → set_some (x ∷ xs) (suc i) o ≡ x ∷ set_some xs i o
+  some_behind x xs i None = refl
+  some_behind x xs i (Some y) = refl
+
+  one_more : (f : X → X) (i : ℕ) (xs : List X) → map f (take i (changed_nth f i xs)) ++ drop i (changed_nth f i xs) ≡ map f (take (suc i) xs) ++ drop (suc i) xs
+  one_more f zero [] = refl
+  one_more f (suc i) [] = refl
+  one_more f zero (x ∷ xs) = refl
+  one_more f (suc i) (x ∷ xs) =
+      ap (λ ys. map f (take (suc i) ys) ++ drop (suc i) ys) (some_behind x xs i (changed_some f (slice_get xs i)))
+      ∙ ap (λ ys. f x ∷ ys) (one_more f i xs)
+
+  pub step_down : (f : X → X) (at next : ℕ) (xs ys all : List X) → suc next ≡ at → ys ≡ changed_nth f next xs → map f (take at xs) ++ drop at xs ≡ all → map f (take next ys) ++ drop next ys ≡ all
+  step_down f at next xs ys all less changed before =
+      ap (λ zs. map f (take next zs) ++ drop next zs) changed
+      ∙ one_more f next xs
+      ∙ ap (λ n. map f (take n xs) ++ drop n xs) less
+      ∙ before

@@ -2,17 +2,18 @@
 ghost use Rattle.std.specs.Prelude.{◌≡◌, ◌<◌, ◌≤◌, ◌^◌, [], ◌∷◌, All, IfOk, IfSome, length};
 ghost use Rattle.std.specs.List.{list_any};
 ghost use Rattle.queue_rows.specs.Commits.{commit_of};
-ghost use Rattle.sessions.specs.Numbers.{IsLowest, IsPendable};
+ghost use Rattle.queue_rows.specs.declared.session.Pending.TheVariants.{Add};
+ghost use Rattle.sessions.specs.Numbers.{IsAddable, IsLowest, IsPendable};
 ghost use Rattle.sessions.specs.Running.{AreEnoughFor, is_addition};
 ghost use Rattle.sessions.specs.Stamped.{changes_at};
 
 use crate::SessionState;
-use crate::completed::{Stamp, change_of};
+use crate::completed::{Stamp, change_of, complete};
 use crate::running::lower_by;
 use exception_queues::settle;
 use named_list::NamedList;
-use payload_records::{Copied, List};
-use queue_rows::{Change, MessageTables, Pending, QueueRow, Tables};
+use payload_records::{Boxed, Copied, List};
+use queue_rows::{Change, MessageTables, MsgRow, Pending, QueueRow, Tables};
 use std::alloc::{AllocError, Global};
 
 fn is_addition(pending: &Pending) -> bool
@@ -131,6 +132,28 @@ pub fn changes_alone<T: MessageTables>(
     };
     let change = change_of(alloc, rows, &rows.queues, stamp, pending)?;
     settle(tables, alone(alloc, change)?)
+}
+
+/// What one addition becomes when it is committed at that moment, as a transaction of its own. The message is completed where
+/// it stands, and an addition settles nothing.
+#[tactic(auto, using(crate::proofs::CommitChanges::lowest_within))]
+pub fn addition_alone<T: MessageTables>(
+    alloc: Global,
+    tables: &T,
+    mut message: MsgRow,
+    moment: u64,
+) -> Result<List<Change>, AllocError>
+    requires moment { moment ≤ 2 ^ 62 }
+    requires group { (T.tables tables.now).transaction < 2 ^ 62 }
+    requires lowest { All (IsLowest (2 ^ 62)) (T.tables tables.now).queues }
+    requires numbers { IsAddable message }
+    ensures { IfOk result (λ it. it ≡ commit_of (T.tables tables.now) moment (Add message ∷ [])) }
+{
+    let rows = tables.tables();
+    let group = rows.transaction;
+    let stamp = Stamp { group, moment };
+    complete(alloc, rows, &rows.queues, stamp, &mut message)?;
+    alone(alloc, Change::Enqueued(Boxed::new(alloc, message)?))
 }
 
 // The pending one, where it is the only one.

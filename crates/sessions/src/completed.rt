@@ -1,8 +1,9 @@
 // Additions as their commit puts them in.
-ghost use Rattle.std.specs.Prelude.{◌≡◌, ◌<◌, ◌≤◌, ◌^◌, ◌-◌, List as Sequence, map, All, IfOk, IfSome, find, option_copied};
+ghost use Rattle.std.specs.Prelude.{◌≡◌, ◌<◌, ◌≤◌, ◌^◌, ◌-◌, List as Sequence, map, All, IfOk, IfSome, OnOk, find, option_copied};
 ghost use Rattle.queue_rows.specs.declared.rows.QueueRow.{QueueRow};
 ghost use Rattle.std.specs.Str.{bytes_eq};
 ghost use Rattle.queue_rows.specs.Commits.{slot_at_commit};
+ghost use Rattle.queue_rows.specs.Rows.{changed_nth};
 ghost use Rattle.sessions.specs.Numbers.{IsAbove, IsLowest, IsAddable, IsPendable};
 ghost use Rattle.sessions.specs.Stamped.{completed_in_table, completed_for, completed_among, change_among};
 
@@ -23,72 +24,71 @@ pub struct Stamp {
     pub moment: u64,
 }
 
-fn slot_at_commit(slot: &SlotRow, moment: u64) -> Result<SlotRow, AllocError>
-    ensures { IfOk result (λ new. new ≡ slot_at_commit moment slot.now) }
+fn complete_slot(slot: &mut SlotRow, moment: u64)
+    ensures { slot.new ≡ slot_at_commit moment slot.old }
 {
-    let mut new = slot.copied()?;
     if slot.at <= moment {
-        new.state = SlotState::Ready;
-        new.at = moment;
+        slot.set_state(SlotState::Ready, moment);
     }
-    Ok(new)
 }
 
-fn slots_at_commit(slots: &List<SlotRow>, moment: u64) -> Result<List<SlotRow>, AllocError>
-    ensures { IfOk result (λ new. new ≡ map (slot_at_commit moment) slots.now) }
+fn complete_slot_at(slots: &mut List<SlotRow>, index: usize, moment: u64)
+    ensures { slots.new ≡ changed_nth (slot_at_commit moment) index slots.old }
 {
-    let mut new = List::from_vec(Vec::with_capacity(slots.allocator(), slots.len())?);
-    for slot in slots {
-        new.push(slot_at_commit(slot, moment)?)?;
+    if let Some(slot) = slots.get_mut(index) {
+        complete_slot(slot, moment);
     }
-    Ok(new)
 }
 
-fn completed_in_table(
+fn complete_slots(slots: &mut List<SlotRow>, moment: u64)
+    ensures { slots.new ≡ map (slot_at_commit moment) slots.old }
+{
+    let mut at = slots.len();
+    while at > 0 {
+        at -= 1;
+        complete_slot_at(slots, at, moment);
+    }
+}
+
+fn complete_in_table(
     alloc: Global,
     table: &TableRow,
     queue: &QueueRow,
     stamp: Stamp,
-    message: &MsgRow,
-) -> Result<MsgRow, AllocError>
+    message: &mut MsgRow,
+) -> Result<(), AllocError>
     requires group { stamp.group < 2 ^ 62 }
     requires moment { stamp.moment ≤ 2 ^ 62 }
     requires lowest { IsAbove (2 ^ 63 - 1) queue.now.lowest }
-    requires numbers { IsAddable message.now }
-    ensures { IfOk result (λ m. m ≡ completed_in_table table.now queue.now stamp message.now) }
+    requires numbers { IsAddable message.old }
+    ensures { OnOk result (message.new ≡ completed_in_table table.now queue.now stamp message.old) }
 {
-    Ok(MsgRow {
-        id: message.id,
-        queue: message.queue.copied()?,
-        place: place_at_commit(alloc, table, queue, stamp.group, stamp.moment, message)?,
-        facts: message.facts.copied()?,
-        exception: Copied::copied(&message.exception)?,
-        enq: message.enq,
-        group: stamp.group,
-        moved: message.moved,
-        slots: slots_at_commit(&message.slots, stamp.moment)?,
-    })
+    message.place = place_at_commit(alloc, table, queue, stamp.group, stamp.moment, message)?;
+    message.group = stamp.group;
+    complete_slots(&mut message.slots, stamp.moment);
+    Ok(())
 }
 
-fn completed_by(
+fn complete_by(
     alloc: Global,
     tables: &Tables,
     queue: Option<&QueueRow>,
     stamp: Stamp,
-    message: &MsgRow,
-) -> Result<MsgRow, AllocError>
+    message: &mut MsgRow,
+) -> Result<(), AllocError>
     requires group { stamp.group < 2 ^ 62 }
     requires moment { stamp.moment ≤ 2 ^ 62 }
     requires lowest { IfSome (option_copied queue) (IsLowest (2 ^ 63 - 1)) }
-    requires numbers { IsAddable message.now }
-    ensures { IfOk result (λ m. m ≡ completed_for tables.now (option_copied queue.entry) stamp message.now) }
+    requires numbers { IsAddable message.old }
+    ensures { OnOk result (message.new
+        ≡ completed_for tables.now (option_copied queue.entry) stamp message.old) }
 {
     let Some(queue) = queue else {
-        return message.copied();
+        return Ok(());
     };
     match find_table(tables, &queue.table) {
-        Some(table) => completed_in_table(alloc, table, queue, stamp, message),
-        None => message.copied(),
+        Some(table) => complete_in_table(alloc, table, queue, stamp, message),
+        None => Ok(()),
     }
 }
 
@@ -117,22 +117,24 @@ impl Queues for List<QueueRow> {
     }
 }
 
+/// Completes an addition where it stands, in the tables with these queues: nothing of it is copied but its place.
 #[tactic(auto, using(crate::proofs::Each::found_each))]
-fn completed<Q: Queues>(
+pub fn complete<Q: Queues>(
     alloc: Global,
     tables: &Tables,
     queues: &Q,
     stamp: Stamp,
-    message: &MsgRow,
-) -> Result<MsgRow, AllocError>
+    message: &mut MsgRow,
+) -> Result<(), AllocError>
     requires group { stamp.group < 2 ^ 62 }
     requires moment { stamp.moment ≤ 2 ^ 62 }
     requires lowest { All (IsLowest (2 ^ 63 - 1)) (Q.rows queues.now) }
-    requires numbers { IsAddable message.now }
-    ensures { IfOk result (λ m. m ≡ completed_among tables.now (Q.rows queues.now) stamp message.now) }
+    requires numbers { IsAddable message.old }
+    ensures { OnOk result (message.new
+        ≡ completed_among tables.now (Q.rows queues.now) stamp message.old) }
 {
     let queue = queues.queue(&message.queue);
-    completed_by(alloc, tables, queue, stamp, message)
+    complete_by(alloc, tables, queue, stamp, message)
 }
 
 /// What a pending addition or removal becomes in the tables with these queues.
@@ -151,7 +153,8 @@ pub fn change_of<Q: Queues>(
 {
     match pending {
         Pending::Add(message) => {
-            let row = completed(alloc, tables, queues, stamp, message.get())?;
+            let mut row = message.get().copied()?;
+            complete(alloc, tables, queues, stamp, &mut row)?;
             Ok(Change::Enqueued(Boxed::new(alloc, row)?))
         }
         Pending::Remove { id, slot } => Ok(Change::Done {

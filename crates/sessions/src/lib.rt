@@ -8,6 +8,6 @@ mod rollback;
 mod running;
 mod state;
 
-pub use commit::{changes_alone, changes_of, commit_changes};
+pub use commit::{addition_alone, changes_alone, changes_of, commit_changes};
 pub use rollback::rollback_changes;
 pub use state::{Effect, PositionMove, SessionState, Untold, Verdict};
