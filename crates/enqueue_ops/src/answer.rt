@@ -21,7 +21,7 @@ use queue_rows::{
     Visibility, find_queue, find_table,
 };
 use recipients::{ChosenFault, chosen};
-use sessions::{Effect, SessionState, Verdict, changes_alone};
+use sessions::{Effect, SessionState, Verdict, addition_alone};
 use std::alloc::{AllocError, Global};
 
 // ---- the tests that refuse it
@@ -82,8 +82,7 @@ fn add_message<T: MessageTables>(
             Ok(effect)
         }
         Visibility::Immediate => {
-            let pending = Pending::Add(Boxed::new(alloc, message)?);
-            let commit = changes_alone(alloc, store, &pending, moment)?;
+            let commit = addition_alone(alloc, store, message, moment)?;
             Ok(Effect::plain(Verdict::Answer(reply), commit))
         }
     }
