@@ -12,7 +12,8 @@ ghost use Rattle.commit_log.specs.Logged.{AreLoggable, Logs};
 use crate::laws::log_recovers;
 use aq_disk::Disk;
 use database_recovery::{append_recovers, bodies_join, commit_leads_on};
-use queue_rows::Commit;
+use payload_records::List;
+use queue_rows::Change;
 use redo_journal::{Journal, JournalFault};
 use redo_records::encode_into;
 use std::alloc::{AllocError, Global};
@@ -73,18 +74,20 @@ impl<D: Disk> CommitLog<D> {
         self.journal.failed_at()
     }
 
-    /// Queues a commit as its bytes, and takes all memory that writing it will need. At want of memory the log is as before; there is none
-    /// for a commit with a name that is too long to be one.
-    pub fn prepare(&mut self, commit: &Commit) -> Result<(), AllocError>
-        ensures ok { OnOk result
-            (self.new ≡ record self.old { queued = self.old.queued ++ encode commit.now ∷ [] }) }
+    /// Queues the commit of these changes at that moment as its bytes, and takes all memory that writing it will need. At want of memory
+    /// the log is as before; there is none for a commit with a name that is too long to be one.
+    pub fn prepare(&mut self, moment: u64, changes: &List<Change>) -> Result<(), AllocError>
+        ensures ok { OnOk result (self.new ≡ record self.old {
+          queued = self.old.queued ++ encode (record { moment = moment; changes = changes.now }) ∷ [];
+        }) }
         ensures logs { OnOk result ((opening : Tables) (commits : List Commit) (k : ℕ)
             → Logs D.seen D.is_image D.calls opening commits k self.old
-            → Logs D.seen D.is_image D.calls opening (commits ++ commit.now ∷ []) k self.new) }
+            → Logs D.seen D.is_image D.calls opening
+            (commits ++ (record { moment = moment; changes = changes.now }) ∷ []) k self.new) }
         ensures err { OnErr result (self.new ≡ self.old) }
     {
         commit_leads_on();
-        encode_into(&mut self.spelled, commit)?;
+        encode_into(&mut self.spelled, moment, changes)?;
         self.journal.prepare(&self.spelled)
     }
 

@@ -1,6 +1,6 @@
 -- A run goes on with an entry whose commit is queued.
 use Rattle.std.proofs.Common.{◌≡◌, ◌⊎◌, inl, inr, ◌≤◌, ◌++◌, ℕ, Bool, true, false, not, if◌then◌else◌, List, [], ◌∷◌, length, Option, Some, None, IsSome, refl, sym, ap, ◌∙◌, subst, arith}
-use Rattle.std.specs.Prelude.{◌==◌}
+use Rattle.std.specs.Prelude.{◌==◌, Result, Ok, Err, OnOk}
 use Rattle.std.specs.List.{cons_option}
 use Rattle.std.proofs.lemmas.List.{append-nil}
 use Rattle.aq_base.specs.declared.DbId.{DbId}
@@ -85,7 +85,7 @@ module _ {D : Type 0} (seen : D → Option (List ℕ)) (images : D → ℕ → L
   }
 
   -- a commit is queued
-  pub queues_one : (length cs == 0) ≡ false → new ≡ record old { queued = old.queued ++ encode (commit_of moment cs) ∷ [] }
+  queues_one : (length cs == 0) ≡ false → new ≡ record old { queued = old.queued ++ encode (commit_of moment cs) ∷ [] }
       → ((opening : Tables) (commits : List Commit) (k : ℕ) → Logs seen images calls opening commits k old → Logs seen images calls opening (commits ++ commit_of moment cs ∷ []) k new)
       → Queues seen images calls moment cs old new
   queues_one some is logs = record {
@@ -94,6 +94,12 @@ module _ {D : Type 0} (seen : D → Option (List ℕ)) (images : D → ℕ → L
         (ap (λ (j : Journaled D). j.disk) is) (ap (λ (j : Journaled D). j.failed_at) is) logs
         r e q.quiet q.number_is (makes_one r.db e moment cs q.changes q.moment_is some) disk;
   }
+
+  pub queues_if_ok : {T E : Type 0} (r : Result T E) → (length cs == 0) ≡ false → OnOk r (new ≡ record old { queued = old.queued ++ encode (commit_of moment cs) ∷ [] })
+      → OnOk r ((opening : Tables) (commits : List Commit) (k : ℕ) → Logs seen images calls opening commits k old → Logs seen images calls opening (commits ++ commit_of moment cs ∷ []) k new)
+      → OnOk r (Queues seen images calls moment cs old new)
+  queues_if_ok (Ok x) some is logs = queues_one some is logs
+  queues_if_ok (Err e) some is logs = tt
 
 -- ---- what was queued is taken back
 

@@ -250,16 +250,6 @@ adds_confirmed actor w at number cs =
     let away = at_away at.db cs in
     adds_transit actor false home away w (stepped actor w home away (Confirm at)) None (adds_stepped false actor w home away (Confirm at) refl)
 
--- ---- both sides of what is sent
-
-pub first_again : (db : DbId) (own other : List Change) → home_of db (home_of db own other) (away_of db own other) ≡ own
-first_again Home own other = refl
-first_again Away own other = refl
-
-pub second_again : (db : DbId) (own other : List Change) → away_of db (home_of db own other) (away_of db own other) ≡ other
-second_again Home own other = refl
-second_again Away own other = refl
-
 -- ---- what was made of a step, where it was made
 
 there_is : (i : ℕ) (w v : World) (f : Session → World) (state : SessionState) → option_map session_of (Some state) ≡ option_map unmarked (slice_get w.sessions i) → OfSession i w (λ s. v ≡ f s)
@@ -268,14 +258,13 @@ there_is i w v f state is made =
     let s = session_there (slice_get w.sessions i) state is in
     (s.0, of_some (λ t. v ≡ f t) (slice_get w.sessions i) s.0 s.1 made, s.2)
 
-pub called_adds : {T E : Type 0} (made : Result T E) (i : ℕ) (w v : World) (state : SessionState) (call : CallEffect) (cs : List Change) → option_map session_of (Some state) ≡ option_map unmarked (slice_get w.sessions i)
-    → call.commit ≡ cs → OnOk made (OfSession i w (λ s. v ≡ called_with i call w s)) → OnOk made (Adds i false (at_home state.at cs) (at_away state.at cs) w v)
-called_adds made i w v state call cs is commit_is h = ok_from made h (λ o.
+pub called_adds : {T E : Type 0} (made : Result T E) (i : ℕ) (w v : World) (state : SessionState) (call : CallEffect) → option_map session_of (Some state) ≡ option_map unmarked (slice_get w.sessions i)
+    → OnOk made (OfSession i w (λ s. v ≡ called_with i call w s)) → OnOk made (Adds i false (at_home state.at call.commit) (at_away state.at call.commit) w v)
+called_adds made i w v state call is h = ok_from made h (λ o.
     let s = there_is i w v (called_with i call w) state is o in
     let at : s.0.at ≡ state.at = sym (ap (λ (t : Session). t.at) s.2) in
-    subst (λ (d : DbId). Adds i false (at_home d cs) (at_away d cs) w v) at
-    (subst (λ (l : List Change). Adds i false (at_home s.0.at l) (at_away s.0.at l) w v) commit_is
-    (subst (Adds i false (at_home s.0.at call.commit) (at_away s.0.at call.commit) w) (sym s.1) (adds_called i w s.0 call))))
+    subst (λ (d : DbId). Adds i false (at_home d call.commit) (at_away d call.commit) w v) at
+    (subst (Adds i false (at_home s.0.at call.commit) (at_away s.0.at call.commit) w) (sym s.1) (adds_called i w s.0 call)))
 
 pub parked_adds : {T E : Type 0} (made : Result T E) (i since : ℕ) (w v : World) (state : SessionState) → option_map session_of (Some state) ≡ option_map unmarked (slice_get w.sessions i)
     → is_some state.parked ≡ false → OnOk made (OfSession i w (λ s. v ≡ parked i s since w)) → OnOk made (Adds i false [] [] w v)
@@ -289,10 +278,9 @@ pub ended_adds : {T E : Type 0} (made : Result T E) (i : ℕ) (w v : World) (sta
 ended_adds made i w v state is h = ok_from made h (λ o.
     let s = there_is i w v (λ t. ended i t w) state is o in subst (Adds i false [] [] w) (sym s.1) (adds_ended i w s.0))
 
-pub stepped_adds : {T E : Type 0} (made : Result T E) (actor : ℕ) (w v : World) (home away h a : List Change) (step : Step) → is_flush step ≡ false → h ≡ home → a ≡ away
-    → OnOk made (v ≡ stepped actor w h a step) → OnOk made (Adds actor false home away w v)
-stepped_adds made actor w v home away h a step quiet at_h at_a did = ok_from made did (λ is.
-    subst (Adds actor false home away w) (sym (is ∙ ap (λ (l : List Change). stepped actor w l a step) at_h ∙ ap (λ (l : List Change). stepped actor w home l step) at_a)) (adds_stepped false actor w home away step quiet))
+pub stepped_adds : {T E : Type 0} (made : Result T E) (actor : ℕ) (w v : World) (home away : List Change) (step : Step) → is_flush step ≡ false
+    → OnOk made (v ≡ stepped actor w home away step) → OnOk made (Adds actor false home away w v)
+stepped_adds made actor w v home away step quiet did = ok_from made did (λ is. subst (Adds actor false home away w) (sym is) (adds_stepped false actor w home away step quiet))
 
 pub offered_adds : {T E : Type 0} (made : Result T E) (actor : ℕ) (w v : World) (at : SlotRef) (to : List ℕ) → OnOk made (v ≡ sent actor (offers at to) w) → OnOk made (Adds actor false [] [] w v)
 offered_adds made actor w v at to did = ok_from made did (λ is. subst (Adds actor false [] [] w) (sym is) (adds_offered actor w at to))
@@ -303,10 +291,9 @@ arrived_adds made actor w v at a home away at_h at_a did = ok_from made did (λ 
     subst (λ (l : List Change). Adds actor false l away w v) at_h (subst (λ (l : List Change). Adds actor false (home_of at.db a.origin a.there) l w v) at_a
     (subst (Adds actor false (home_of at.db a.origin a.there) (away_of at.db a.origin a.there) w) (sym is) (adds_arrived actor w at a))))
 
-pub confirmed_adds : {T E : Type 0} (made : Result T E) (actor : ℕ) (w v : World) (at : SlotRef) (cs more : List Change) → more ≡ cs → OnOk made ((number : ℕ) → v ≡ sent actor (confirms at number more) w)
+pub confirmed_adds : {T E : Type 0} (made : Result T E) (actor : ℕ) (w v : World) (at : SlotRef) (cs : List Change) → OnOk made ((number : ℕ) → v ≡ sent actor (confirms at number cs) w)
     → OnOk made (Adds actor false (at_home at.db cs) (at_away at.db cs) w v)
-confirmed_adds made actor w v at cs more same did = ok_from made did (λ is.
-    subst (λ (l : List Change). Adds actor false (at_home at.db l) (at_away at.db l) w v) same (subst (Adds actor false (at_home at.db more) (at_away at.db more) w) (sym (is 0)) (adds_confirmed actor w at 0 more)))
+confirmed_adds made actor w v at cs did = ok_from made did (λ is. subst (Adds actor false (at_home at.db cs) (at_away at.db cs) w) (sym (is 0)) (adds_confirmed actor w at 0 cs))
 
 pub told_adds : (i number : ℕ) (w v : World) (state : SessionState) → option_map session_of (Some state) ≡ option_map unmarked (slice_get w.sessions i)
     → flushed i w ≡ w → OfSession i w (λ s. v ≡ told i s number w) → Adds i false [] [] w v

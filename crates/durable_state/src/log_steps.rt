@@ -1,5 +1,5 @@
 // What a step does to one log.
-ghost use Rattle.std.specs.Prelude.{◌≡◌, ◌≤◌, ◌<◌, ◌+◌, ℕ, [], None, IsSome, IfOk, OnOk, OnErr, length, true};
+ghost use Rattle.std.specs.Prelude.{◌≡◌, ◌≤◌, ◌<◌, ◌+◌, ℕ, [], None, IsSome, OnOk, OnErr, length, true};
 ghost use Rattle.durable_state.specs.Queueing.{Queues, unqueueing};
 ghost use Rattle.durable_state.specs.Writing.{Flushes, Writes};
 
@@ -7,29 +7,25 @@ use aq_disk::Disk;
 use commit_log::{CommitLog, loggable_so_far};
 use crash_laws::{calls_pass, entry_comes, flush_comes, flush_leaves};
 use payload_records::List;
-use queue_rows::{Change, Commit};
+use queue_rows::Change;
 use redo_journal::JournalFault;
 use std::alloc::AllocError;
 
-/// Queues the commit of these changes at that moment, and gives the changes back; an empty list is no commit. At want of memory the log is
-/// as before.
+/// Queues the commit of these changes at that moment; an empty list is no commit. At want of memory the log is as before.
 pub(crate) fn queue<D: Disk>(
     log: &mut CommitLog<D>,
     moment: u64,
-    changes: List<Change>,
-) -> Result<List<Change>, AllocError>
-    ensures same { IfOk result (λ same. same ≡ changes) }
-    ensures ok { OnOk result (Queues D.seen D.is_image D.calls moment changes log.old log.new) }
+    changes: &List<Change>,
+) -> Result<(), AllocError>
+    ensures ok { OnOk result (Queues D.seen D.is_image D.calls moment changes.now log.old log.new) }
     ensures err { OnErr result (log.new ≡ log.old) }
 {
     entry_comes::<D>();
     loggable_so_far();
     if changes.is_empty() {
-        return Ok(changes);
+        return Ok(());
     }
-    let commit = Commit { moment, changes };
-    log.prepare(&commit)?;
-    Ok(commit.changes)
+    log.prepare(moment, changes)
 }
 
 /// A log goes on as it is where nothing is committed.

@@ -23,21 +23,6 @@ pub(crate) struct Queued {
     pub(crate) away: bool,
 }
 
-/// What an entry commits at home and at away, which is queued.
-#[derive(Drop)]
-pub(crate) struct Entered {
-    pub(crate) home: List<Change>,
-    pub(crate) away: List<Change>,
-    pub(crate) queued: Queued,
-}
-
-/// What an entry commits at one database, which is queued.
-#[derive(Drop)]
-pub(crate) struct EnteredAt {
-    pub(crate) changes: List<Change>,
-    pub(crate) queued: Queued,
-}
-
 /// The logs of both databases, and the call numbers of their disks behind each entry of the run.
 #[derive(Drop)]
 pub(crate) struct RunLogs<D: Disk> {
@@ -51,13 +36,14 @@ fn queue_both<D: Disk>(
     home_log: &mut CommitLog<D>,
     away_log: &mut CommitLog<D>,
     moment: u64,
-    home: List<Change>,
-    away: List<Change>,
-) -> Result<Entered, AllocError>
-    ensures same { IfOk result (λ e. e
-        ≡ record { home = home; away = away; queued = queued_of home away }) }
-    ensures home { OnOk result (Queues D.seen D.is_image D.calls moment home home_log.old home_log.new) }
-    ensures away { OnOk result (Queues D.seen D.is_image D.calls moment away away_log.old away_log.new) }
+    home: &List<Change>,
+    away: &List<Change>,
+) -> Result<Queued, AllocError>
+    ensures same { IfOk result (λ queued. queued ≡ queued_of home.now away.now) }
+    ensures home { OnOk result
+        (Queues D.seen D.is_image D.calls moment home.now home_log.old home_log.new) }
+    ensures away { OnOk result
+        (Queues D.seen D.is_image D.calls moment away.now away_log.old away_log.new) }
     ensures err_home { OnErr result (home_log.new ≡ home_log.old) }
     ensures err_away { OnErr result (away_log.new ≡ away_log.old) }
 {
@@ -65,14 +51,12 @@ fn queue_both<D: Disk>(
         home: !home.is_empty(),
         away: !away.is_empty(),
     };
-    let home = queue(home_log, moment, home)?;
-    match queue(away_log, moment, away) {
-        Ok(away) => Ok(Entered { home, away, queued }),
-        Err(AllocError) => {
-            unqueue(home_log, queued.home);
-            Err(AllocError)
-        }
+    queue(home_log, moment, home)?;
+    if let Err(AllocError) = queue(away_log, moment, away) {
+        unqueue(home_log, queued.home);
+        return Err(AllocError);
     }
+    Ok(queued)
 }
 
 impl<D: Disk> RunLogs<D> {
@@ -111,26 +95,25 @@ impl<D: Disk> RunLogs<D> {
     pub(crate) fn enter(
         &mut self,
         state: &RunState,
-        home: List<Change>,
-        away: List<Change>,
-    ) -> Result<Entered, AllocError>
-        ensures same { IfOk result (λ e. e
-            ≡ record { home = home; away = away; queued = queued_of home away }) }
+        home: &List<Change>,
+        away: &List<Change>,
+    ) -> Result<Queued, AllocError>
+        ensures same { IfOk result (λ queued. queued ≡ queued_of home.now away.now) }
         ensures ok { OnOk result
-            (Enters D.seen D.is_image D.calls state.now.moment home away self.old self.new) }
+            (Enters D.seen D.is_image D.calls state.now.moment home.now away.now self.old self.new) }
         ensures room { OnOk result (HasPlaces (length state.now.sessions + 1) self.new.calls) }
         ensures err { OnErr result (self.new ≡ self.old) }
     {
         let numbers = self.numbers();
         let moment = state.moment();
-        let entered = queue_both(&mut self.home, &mut self.away, moment, home, away)?;
+        let queued = queue_both(&mut self.home, &mut self.away, moment, home, away)?;
         if let Err(AllocError) = self.calls.reserve(state.session_count()) {
-            unqueue(&mut self.home, entered.queued.home);
-            unqueue(&mut self.away, entered.queued.away);
+            unqueue(&mut self.home, queued.home);
+            unqueue(&mut self.away, queued.away);
             return Err(AllocError);
         }
         self.calls.push(numbers);
-        Ok(entered)
+        Ok(queued)
     }
 
     /// The same of an entry that commits these changes at one database, and nothing at the other one.
@@ -138,33 +121,19 @@ impl<D: Disk> RunLogs<D> {
         &mut self,
         state: &RunState,
         db: DbId,
-        changes: List<Change>,
-    ) -> Result<EnteredAt, AllocError>
-        ensures same { IfOk result (λ e. e ≡ record {
-          changes = changes;
-          queued = queued_of (at_home db changes) (at_away db changes);
-        }) }
+        changes: &List<Change>,
+    ) -> Result<Queued, AllocError>
+        ensures same { IfOk result
+            (λ queued. queued ≡ queued_of (at_home db changes.now) (at_away db changes.now)) }
         ensures ok { OnOk result (Enters D.seen D.is_image D.calls state.now.moment
-            (at_home db changes) (at_away db changes) self.old self.new) }
+            (at_home db changes.now) (at_away db changes.now) self.old self.new) }
         ensures room { OnOk result (HasPlaces (length state.now.sessions + 1) self.new.calls) }
         ensures err { OnErr result (self.new ≡ self.old) }
     {
         let nothing = List::new(changes.allocator());
         match db {
-            DbId::Home => {
-                let Entered { home, queued, .. } = self.enter(state, changes, nothing)?;
-                Ok(EnteredAt {
-                    changes: home,
-                    queued,
-                })
-            }
-            DbId::Away => {
-                let Entered { away, queued, .. } = self.enter(state, nothing, changes)?;
-                Ok(EnteredAt {
-                    changes: away,
-                    queued,
-                })
-            }
+            DbId::Home => self.enter(state, changes, &nothing),
+            DbId::Away => self.enter(state, &nothing, changes),
         }
     }
 
@@ -175,9 +144,8 @@ impl<D: Disk> RunLogs<D> {
         ensures room { OnOk result (HasPlaces (length state.now.sessions + 1) self.new.calls) }
         ensures err { OnErr result (self.new ≡ self.old) }
     {
-        let alloc = state.allocator();
-        let entered = self.enter(state, List::new(alloc), List::new(alloc))?;
-        Ok(entered.queued)
+        let nothing = List::new(state.allocator());
+        self.enter(state, &nothing, &nothing)
     }
 
     /// An entry comes that is no flush and commits nothing, for which a place was kept.

@@ -11,7 +11,6 @@ ghost use Rattle.durable_state.specs.Going.{AddsEntries, Goes};
 ghost use Rattle.durable_state.specs.Held.{HasFailed};
 
 use crate::durable_state::DurableState;
-use crate::run_logs::{Entered, EnteredAt};
 use aq_base::DbId;
 use aq_disk::Disk;
 use payload_records::{List, Name};
@@ -19,10 +18,14 @@ use queue_rows::{Change, SlotRef};
 use run_state::{Arriving, CallEffect};
 use std::alloc::AllocError;
 
-/// What is committed at home and at away, of what is at one of them and at the other one; and back.
-fn sides(at: DbId, own: List<Change>, other: List<Change>) -> (List<Change>, List<Change>)
-    ensures first { result.0 ≡ home_of at own other }
-    ensures second { result.1 ≡ away_of at own other }
+/// What is committed at home and at away, of what is at one of them and at the other one.
+fn sides<'a>(
+    at: DbId,
+    own: &'a List<Change>,
+    other: &'a List<Change>,
+) -> (&'a List<Change>, &'a List<Change>)
+    ensures first { result.0.now ≡ home_of at own.now other.now }
+    ensures second { result.1.now ≡ away_of at own.now other.now }
 {
     match at {
         DbId::Home => (own, other),
@@ -58,19 +61,7 @@ impl<D: Disk> DurableState<D> {
             return Ok(());
         };
         let db = session.at;
-        let CallEffect {
-            reply,
-            commit,
-            holdings,
-            positions,
-        } = effect;
-        let EnteredAt { changes, queued } = self.logs.enter_at(&self.state, db, commit)?;
-        let effect = CallEffect {
-            reply,
-            commit: changes,
-            holdings,
-            positions,
-        };
+        let queued = self.logs.enter_at(&self.state, db, &effect.commit)?;
         let made = self.state.call(at, effect);
         self.logs.settle(queued, &made);
         made
@@ -132,7 +123,7 @@ impl<D: Disk> DurableState<D> {
         ensures disks { Goes D.seen D.is_image D.calls D.faults self.old self.new }
         ensures fine { HasFailed self.new → HasFailed self.old }
     {
-        let Entered { home, away, queued } = self.logs.enter(&self.state, home, away)?;
+        let queued = self.logs.enter(&self.state, &home, &away)?;
         let made = self.state.time(actor, home, away);
         self.logs.settle(queued, &made);
         made
@@ -161,19 +152,8 @@ impl<D: Disk> DurableState<D> {
         ensures disks { Goes D.seen D.is_image D.calls D.faults self.old self.new }
         ensures fine { HasFailed self.new → HasFailed self.old }
     {
-        let Arriving {
-            outcome,
-            origin,
-            there,
-        } = arriving;
-        let (home, away) = sides(at.db, origin, there);
-        let Entered { home, away, queued } = self.logs.enter(&self.state, home, away)?;
-        let (origin, there) = sides(at.db, home, away);
-        let arriving = Arriving {
-            outcome,
-            origin,
-            there,
-        };
+        let (home, away) = sides(at.db, &arriving.origin, &arriving.there);
+        let queued = self.logs.enter(&self.state, home, away)?;
         let made = self.state.arrive(actor, at, arriving);
         self.logs.settle(queued, &made);
         made
@@ -193,7 +173,7 @@ impl<D: Disk> DurableState<D> {
         ensures disks { Goes D.seen D.is_image D.calls D.faults self.old self.new }
         ensures fine { HasFailed self.new → HasFailed self.old }
     {
-        let EnteredAt { changes, queued } = self.logs.enter_at(&self.state, at.db, changes)?;
+        let queued = self.logs.enter_at(&self.state, at.db, &changes)?;
         let made = self.state.confirm(actor, at, changes);
         self.logs.settle(queued, &made);
         made

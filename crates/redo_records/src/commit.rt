@@ -14,15 +14,18 @@ use payload_records::List;
 use queue_rows::{Change, Commit};
 use std::alloc::{AllocError, Global};
 
-/// Writes the one spelling of a commit in place of what stood in a vector, whose memory is used again: what `encode` gives.
+/// Writes the one spelling of the commit of these changes at that moment in place of what stood in a vector, whose memory is used
+/// again: what `encode` gives.
 #[tactic(auto, unfolding(crate::specs::Spelling::spelling))]
-pub fn encode_into(out: &mut Vec<u8>, commit: &Commit) -> Result<(), AllocError>
-    ensures bytes { OnOk result (out.new.items ≡ encode commit.now) }
-    ensures spelled { OnOk result (CanBeSpelled commit.now → HasSpelling 2 commit.now) }
+pub fn encode_into(out: &mut Vec<u8>, moment: u64, changes: &List<Change>) -> Result<(), AllocError>
+    ensures bytes { OnOk result
+        (out.new.items ≡ encode (record { moment = moment; changes = changes.now })) }
+    ensures spelled { OnOk result (CanBeSpelled (record { moment = moment; changes = changes.now })
+        → HasSpelling 2 (record { moment = moment; changes = changes.now })) }
 {
     out.clear();
-    put_num(out, commit.moment)?;
-    for change in &commit.changes {
+    put_num(out, moment)?;
+    for change in changes {
         put_change(out, change)?;
     }
     Ok(())
@@ -35,7 +38,7 @@ pub fn encode(commit: &Commit) -> Result<Vec<u8>, AllocError>
     ensures spelled { OnOk result (CanBeSpelled commit.now → HasSpelling 2 commit.now) }
 {
     let mut out = Vec::new(commit.changes.allocator());
-    encode_into(&mut out, commit)?;
+    encode_into(&mut out, commit.moment, &commit.changes)?;
     Ok(out)
 }
 

@@ -12,7 +12,7 @@ pub returns-clause-logs : goal.returns-clause-logs
 returns-clause-logs g c =
     let disk = g.D.Disk in
     let new = c.prepare.new.self in
-    let commit = c.args.commit.now in
+    let commit : Commit = record { moment = c.args.moment; changes = c.args.changes.now } in
     subst (λ (j : Journaled g.row.D.Denot). OnOk c.prepare.result ((opening : Tables) (commits : List Commit) (k : ℕ) → Logs disk.seen disk.is_image disk.calls opening commits k j
     → Logs disk.seen disk.is_image disk.calls opening (commits ++ commit ∷ []) k new)) c.self.view_is
     (on_ok_weaker c.prepare.result

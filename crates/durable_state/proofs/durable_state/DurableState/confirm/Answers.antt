@@ -1,9 +1,7 @@
-use Rattle.std.proofs.Common.{refl, ◌≡◌, ap, ◌∙◌, subst}
+use Rattle.std.proofs.Common.{refl, ap, ◌∙◌, subst}
 use Rattle.queue_rows.specs.World.{at_home, at_away}
-use Rattle.durable_state.specs.declared.run_logs.EnteredAt.{EnteredAt}
 use Rattle.durable_state.specs.Going.{AddsEntries, Goes}
 use Rattle.durable_state.specs.Held.{Held}
-use Rattle.durable_state.specs.Queueing.{queued_of}
 use Rattle.durable_state.proofs.Growing.{adds_same}
 use Rattle.durable_state.proofs.Stepping.{follows, held_of}
 use Rattle.durable_state.proofs.Worlds.{confirmed_adds}
@@ -15,11 +13,9 @@ invariant_of-self-2 g c =
     let v = c.confirm-made.new.self in
     let db = c.args.at.db in
     let cs = c.args.changes in
-    let queued : c.in_ok-changes.field-0.queued ≡ queued_of (at_home db cs) (at_away db cs) = ap (λ (e : EnteredAt). e.queued) c.in_ok-changes.ensures.same in
-    let changes : c.in_ok-changes.field-0.changes ≡ cs = ap (λ (e : EnteredAt). e.changes) c.in_ok-changes.ensures.same in
-    let f = follows g.D.Disk.seen g.D.Disk.is_image g.D.Disk.calls g.D.Disk.faults c.confirm-made.result c.args.actor w.moment (at_home db cs) (at_away db cs) c.in_ok-changes.field-0.queued w v c.self.inside.logs c.enter_at.new.self c.settle.new.self
-    c.self.invariant.few c.self.invariant.brief refl queued c.in_ok-changes.ensures.ok c.in_ok-changes.ensures.room c.settle.ensures.ok c.settle.ensures.err
-    (confirmed_adds c.confirm-made.result c.args.actor w v c.args.at cs c.in_ok-changes.field-0.changes changes c.confirm-made.ensures.ok) c.confirm-made.ensures.err in
+    let f = follows g.D.Disk.seen g.D.Disk.is_image g.D.Disk.calls g.D.Disk.faults c.confirm-made.result c.args.actor w.moment (at_home db cs) (at_away db cs) c.in_ok-queued.queued w v c.self.inside.logs c.enter_at.new.self c.settle.new.self
+    c.self.invariant.few c.self.invariant.brief refl c.in_ok-queued.ensures.same c.in_ok-queued.ensures.ok c.in_ok-queued.ensures.room c.settle.ensures.ok c.settle.ensures.err
+    (confirmed_adds c.confirm-made.result c.args.actor w v c.args.at cs c.confirm-made.ensures.ok) c.confirm-made.ensures.err in
     record { few = f.few; room = f.room; brief = f.brief }
 
 pub returns-clause-disks : goal.returns-clause-disks
@@ -28,12 +24,10 @@ returns-clause-disks g c =
     let v = c.confirm-made.new.self in
     let db = c.args.at.db in
     let cs = c.args.changes in
-    let queued : c.in_ok-changes.field-0.queued ≡ queued_of (at_home db cs) (at_away db cs) = ap (λ (e : EnteredAt). e.queued) c.in_ok-changes.ensures.same in
-    let changes : c.in_ok-changes.field-0.changes ≡ cs = ap (λ (e : EnteredAt). e.changes) c.in_ok-changes.ensures.same in
     subst (λ (o : Held _). Goes g.D.Disk.seen g.D.Disk.is_image g.D.Disk.calls g.D.Disk.faults o (held_of v c.settle.new.self)) c.self.view_is
-    (follows g.D.Disk.seen g.D.Disk.is_image g.D.Disk.calls g.D.Disk.faults c.confirm-made.result c.args.actor w.moment (at_home db cs) (at_away db cs) c.in_ok-changes.field-0.queued w v c.self.inside.logs c.enter_at.new.self c.settle.new.self
-    c.self.invariant.few c.self.invariant.brief refl queued c.in_ok-changes.ensures.ok c.in_ok-changes.ensures.room c.settle.ensures.ok c.settle.ensures.err
-    (confirmed_adds c.confirm-made.result c.args.actor w v c.args.at cs c.in_ok-changes.field-0.changes changes c.confirm-made.ensures.ok) c.confirm-made.ensures.err).goes
+    (follows g.D.Disk.seen g.D.Disk.is_image g.D.Disk.calls g.D.Disk.faults c.confirm-made.result c.args.actor w.moment (at_home db cs) (at_away db cs) c.in_ok-queued.queued w v c.self.inside.logs c.enter_at.new.self c.settle.new.self
+    c.self.invariant.few c.self.invariant.brief refl c.in_ok-queued.ensures.same c.in_ok-queued.ensures.ok c.in_ok-queued.ensures.room c.settle.ensures.ok c.settle.ensures.err
+    (confirmed_adds c.confirm-made.result c.args.actor w v c.args.at cs c.confirm-made.ensures.ok) c.confirm-made.ensures.err).goes
 
 pub returns-clause-adds : goal.returns-clause-adds
 returns-clause-adds g c =
@@ -41,12 +35,10 @@ returns-clause-adds g c =
     let v = c.confirm-made.new.self in
     let db = c.args.at.db in
     let cs = c.args.changes in
-    let queued : c.in_ok-changes.field-0.queued ≡ queued_of (at_home db cs) (at_away db cs) = ap (λ (e : EnteredAt). e.queued) c.in_ok-changes.ensures.same in
-    let changes : c.in_ok-changes.field-0.changes ≡ cs = ap (λ (e : EnteredAt). e.changes) c.in_ok-changes.ensures.same in
     subst (λ (o : Held _). AddsEntries c.args.actor o (held_of v c.settle.new.self)) c.self.view_is
-    (follows g.D.Disk.seen g.D.Disk.is_image g.D.Disk.calls g.D.Disk.faults c.confirm-made.result c.args.actor w.moment (at_home db cs) (at_away db cs) c.in_ok-changes.field-0.queued w v c.self.inside.logs c.enter_at.new.self c.settle.new.self
-    c.self.invariant.few c.self.invariant.brief refl queued c.in_ok-changes.ensures.ok c.in_ok-changes.ensures.room c.settle.ensures.ok c.settle.ensures.err
-    (confirmed_adds c.confirm-made.result c.args.actor w v c.args.at cs c.in_ok-changes.field-0.changes changes c.confirm-made.ensures.ok) c.confirm-made.ensures.err).adds
+    (follows g.D.Disk.seen g.D.Disk.is_image g.D.Disk.calls g.D.Disk.faults c.confirm-made.result c.args.actor w.moment (at_home db cs) (at_away db cs) c.in_ok-queued.queued w v c.self.inside.logs c.enter_at.new.self c.settle.new.self
+    c.self.invariant.few c.self.invariant.brief refl c.in_ok-queued.ensures.same c.in_ok-queued.ensures.ok c.in_ok-queued.ensures.room c.settle.ensures.ok c.settle.ensures.err
+    (confirmed_adds c.confirm-made.result c.args.actor w v c.args.at cs c.confirm-made.ensures.ok) c.confirm-made.ensures.err).adds
 
-pub returns-in_err-changes-clause-adds : goal.returns-in_err-changes-clause-adds
-returns-in_err-changes-clause-adds g c = adds_same _ _ (ap (held_of c.self.inside.state) c.in_err-changes.ensures.err ∙ c.self.view_is)
+pub returns-in_err-queued-clause-adds : goal.returns-in_err-queued-clause-adds
+returns-in_err-queued-clause-adds g c = adds_same _ _ (ap (held_of c.self.inside.state) c.in_err-queued.ensures.err ∙ c.self.view_is)
