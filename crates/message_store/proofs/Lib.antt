@@ -1,4 +1,5 @@
 pub mod LowLemmas
+pub mod MessageLemmas
 pub mod PlaceLemmas
 pub mod ReadyLemmas
 pub mod StoredLemmas

@@ -6,10 +6,10 @@ use Rattle.queue_rows.specs.declared.change.Change.{Change}
 use Rattle.queue_rows.specs.declared.change.Change.TheVariants as changes
 use Rattle.message_store.specs.Room.{Room, HasRoom, HasPlace, room_after, is_table_put, is_queue_put, is_sub_put, is_schedule_put, is_message_put, is_seen_put}
 
-abbrev one_if : Bool → ℕ
+abbrev pub one_if : Bool → ℕ
 one_if b = cond b 1 0
 
-counted : (p : Change → Bool) (c : Change) (cs : List Change) → count_by p (c ∷ cs) ≡ one_if (p c) + count_by p cs
+pub counted : (p : Change → Bool) (c : Change) (cs : List Change) → count_by p (c ∷ cs) ≡ one_if (p c) + count_by p cs
 counted p c cs = sum_by-cons (λ x. one_if (p x)) c cs
 
 one : (p : Change → Bool) (c : Change) → p c ≡ true → one_if (p c) ≡ one_if true

@@ -4,18 +4,21 @@ ghost use Rattle.choice_laws.specs.Entries.{message_at};
 ghost use Rattle.queue_rows.specs.Rows.{find_message};
 ghost use Rattle.queue_rows.specs.Tables.{after, empty_tables};
 ghost use Rattle.message_index.specs.Caches.{AreOf};
+ghost use Rattle.message_store.specs.Numbers.{HasNumbers};
 ghost use Rattle.message_store.specs.OfMessages.{is_of_message};
 ghost use Rattle.message_store.specs.Open.{held, room_of};
 ghost use Rattle.message_store.specs.Prepared.{AreReady};
 ghost use Rattle.message_index.specs.Stamped.{AreStamps, IfReady, IfRemote, entries_of};
 
 use crate::beside::Beside;
-use crate::in_place::apply_in_place;
+use crate::in_place::{apply_in_place, are_of_messages};
 use crate::numbers::check_numbers;
 use crate::open::OpenTables;
+use crate::room::{RowKind, puts_of};
 use message_choice::StampedMessages;
 use message_index::{Caches, MessageIndex, ReadyCache, RemoteCache, find, slot_rooms};
-use queue_rows::{Commit, MsgRow, Tables};
+use payload_records::List;
+use queue_rows::{Change, Commit, MsgRow, Tables};
 use std::alloc::{AllocError, Global};
 use std::marker::Model;
 
@@ -94,6 +97,34 @@ impl KeptTables {
     {
         let changes = &commit.changes;
         check_numbers(changes)?;
+        if are_of_messages(changes) {
+            self.reserve_messages(changes)
+        } else {
+            self.reserve_rows(changes)
+        }
+    }
+
+    // Takes memory for changes of messages that stay in their queues: they put no other rows, and move no slots.
+    fn reserve_messages(&mut self, changes: &List<Change>) -> Result<(), AllocError>
+        requires numbers { All HasNumbers changes.now }
+        requires messages { All (λ c. is_of_message c ≡ true) changes.now }
+        ensures tables { self.new.tables ≡ self.old.tables }
+        ensures stamps { self.new.stamps ≡ self.old.stamps }
+        ensures prepared { OnOk result (AreReady self.new.tables self.new.room changes.now) }
+    {
+        let count = puts_of(RowKind::Message, changes);
+        self.beside.index.reserve(count)?;
+        Ok(())
+    }
+
+    // Takes memory for any changes. Few commits come here: its locals stay out of the way of the others.
+    #[inline(never)]
+    fn reserve_rows(&mut self, changes: &List<Change>) -> Result<(), AllocError>
+        requires { All HasNumbers changes.now }
+        ensures tables { self.new.tables ≡ self.old.tables }
+        ensures stamps { self.new.stamps ≡ self.old.stamps }
+        ensures prepared { OnOk result (AreReady self.new.tables self.new.room changes.now) }
+    {
         self.beside.slots = slot_rooms(&self.tables.messages, &self.beside.index, changes)?;
         self.beside.reserve(&self.tables, changes)?;
         Ok(())

@@ -88,7 +88,17 @@ impl PreparedStore {
         self.kept.message(id)
     }
 
-    // Makes the indexes anew that were let go, where there is memory for them.
+    // Whether no index was let go, and none is for how long queues kept messages before.
+    fn is_whole(&self) -> bool {
+        !self.is_stale
+            && self.caches.ready.slots.is_some()
+            && self.caches.remote.slots.is_some()
+            && self.caches.due.slots.is_some()
+    }
+
+    // Makes the indexes anew that were let go, where there is memory for them. Few commits come here: its locals stay out of the way
+    // of the others.
+    #[inline(never)]
     fn mend(&mut self, alloc: Global)
         ensures { self.new ≡ self.old }
     {
@@ -112,7 +122,9 @@ impl PreparedStore {
         ensures tables { self.new.tables ≡ self.old.tables }
         ensures prepared { OnOk result (IsPreparedFor self.new commit.now.changes) }
     {
-        self.mend(commit.changes.allocator());
+        if !self.is_whole() {
+            self.mend(commit.changes.allocator());
+        }
         self.kept.prepare(commit)
     }
 
