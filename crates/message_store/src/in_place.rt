@@ -16,7 +16,7 @@ use crate::enqueued::{Lower, is_low};
 use message_index::{Caches, push_message, remove_message, set_retried, set_state};
 use named_list::NamedList;
 use open_rows::queue_place;
-use payload_records::{List, Name};
+use payload_records::{Boxed, List, Name};
 use place_keys::Place;
 use queue_rows::{Change, Commit, MsgRow, QueueRow, SlotState, TableRow, Tables};
 
@@ -57,20 +57,26 @@ fn lower(tables: &NamedList<TableRow>, queues: &mut NamedList<QueueRow>, name: &
 }
 
 // The message is there, last of all.
-fn enqueue(tables: &mut Tables, beside: &mut Beside, caches: &mut Caches, row: MsgRow)
-    requires id { row.id < 2 ^ 63 }
-    requires group { row.group < 2 ^ 63 }
+fn enqueue(tables: &mut Tables, beside: &mut Beside, caches: &mut Caches, put: Boxed<MsgRow>)
+    requires id { put.id < 2 ^ 63 }
+    requires group { put.group < 2 ^ 63 }
     requires place { 0 < beside.old.index.room }
     requires indexed { AreIndexed tables.old.messages beside.old.index caches.old }
-    ensures tables { tables.new ≡ with_message tables.old row }
+    ensures tables { tables.new ≡ with_message tables.old put }
     ensures room { let old = room_beside tables.old beside.old in
         room_beside tables.new beside.new ≡ record old { messages = old.messages - 1 } }
     ensures indexed { AreIndexed tables.new.messages beside.new.index caches.new }
 {
+    let row = put.get();
     lower(&tables.tables, &mut tables.queues, &row.queue, &row.place);
     tables.next = tables.next.max(row.id + 1);
     tables.transaction = tables.transaction.max(row.group + 1);
-    push_message(&mut tables.messages, &mut beside.index, caches, row);
+    push_message(
+        &mut tables.messages,
+        &mut beside.index,
+        caches,
+        put.into_inner(),
+    );
 }
 
 // A slot of a message is in that state from a moment on.
@@ -108,7 +114,7 @@ fn change_message(tables: &mut Tables, beside: &mut Beside, caches: &mut Caches,
     ensures indexed { AreIndexed tables.new.messages beside.new.index caches.new }
 {
     match change {
-        Change::Enqueued(row) => enqueue(tables, beside, caches, row.into_inner()),
+        Change::Enqueued(row) => enqueue(tables, beside, caches, row),
         Change::Retried {
             id,
             slot,
