@@ -116,7 +116,8 @@ impl PreparedStore {
     }
 
     /// Takes all memory that a commit needs. The tables are as before, also at want of memory; there is none for a message whose
-    /// number or group is 2^63 or more. An earlier commit that was prepared gives its memory up.
+    /// number or group is 2^63 or more. An earlier commit that was prepared, and not made, gives its memory up, but for what it took for
+    /// slots that move: that stays until another commit that may move some is prepared.
     #[tactic(auto, unfolding(crate::specs::Stored::IsPreparedFor))]
     pub fn prepare(&mut self, commit: &Commit) -> Result<(), AllocError>
         ensures tables { self.new.tables ≡ self.old.tables }
