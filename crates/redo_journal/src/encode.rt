@@ -25,9 +25,7 @@ fn put_byte(room: &mut Vec<u8>, byte: u8)
     ensures items { room.new.items ≡ room.old.items ++ byte ∷ [] }
     ensures capacity { vec_capacity room.old ≤ vec_capacity room.new }
 {
-    let Ok(()) = room.push(byte) else {
-        unreachable!()
-    };
+    room.push_reserved(byte);
 }
 
 #[tactic(auto, using(crate::proofs::Septets::last_septet, crate::proofs::Septets::next_septet, crate::proofs::Septets::no_septet))]
@@ -53,6 +51,10 @@ pub(crate) fn put_num(room: &mut Vec<u8>, n: u64)
     ensures items { room.new.items ≡ room.old.items ++ num n }
     ensures capacity { vec_capacity room.old ≤ vec_capacity room.new }
 {
+    if n < 128 {
+        put_byte(room, n as u8);
+        return;
+    }
     put_septets(room, MOST_SEPTETS, n);
 }
 
