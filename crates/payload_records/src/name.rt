@@ -133,7 +133,7 @@ impl PartialEq for Name {
     ghost laws = { on_per (λ n. n) (partial_equiv_from_equiv nat_list_eq_equiv) };
 
     fn eq(&self, other: &Self) -> bool {
-        self.as_str() == other.as_str()
+        self.bytes.is_same(&other.bytes)
     }
 }
 
@@ -161,7 +161,7 @@ impl Ord for Name {
     ghost matches_eq = { texts_ties };
 
     fn cmp(&self, other: &Self) -> Ordering {
-        self.as_str().cmp(other.as_str())
+        self.bytes.order(&other.bytes)
     }
 }
 

@@ -62,7 +62,7 @@ impl PartialEq for Text {
     ghost laws = { on_per (λ t. t) (partial_equiv_from_equiv nat_list_eq_equiv) };
 
     fn eq(&self, other: &Self) -> bool {
-        self.as_str() == other.as_str()
+        self.bytes.is_same(&other.bytes)
     }
 }
 
@@ -90,7 +90,7 @@ impl Ord for Text {
     ghost matches_eq = { texts_ties };
 
     fn cmp(&self, other: &Self) -> Ordering {
-        self.as_str().cmp(other.as_str())
+        self.bytes.order(&other.bytes)
     }
 }
 
