@@ -3,4 +3,5 @@ pub mod Joined
 pub mod Objects
 pub mod Pieces
 pub mod Plain
+pub mod Usual
 pub mod Written

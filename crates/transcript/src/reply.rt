@@ -1,7 +1,7 @@
 // The text of a reply: a word, and with some words more behind it.
-ghost use Rattle.std.specs.Prelude.{◌≡◌, OnOk, unwrap_or, codes};
+ghost use Rattle.std.specs.Prelude.{◌≡◌, ◌++◌, OnOk, true, None, pos, unwrap_or, codes};
 ghost use Rattle.transcript.specs.Reply.{reply_word, payload_text, message_start, message_head, message_text, agent_text, payload_fault_word, payload_fault_place, payload_fault_text, condition_fault_text, limit_text, reply_details, reply_text};
-ghost use Rattle.transcript.specs.Text.{Writes};
+ghost use Rattle.transcript.specs.Text.{Writes, json_or_null};
 
 use crate::record::{put_props, put_record};
 use crate::text::{
@@ -59,6 +59,14 @@ fn put_payload(out: &mut String, payload: &Option<Shown>) -> Result<(), AllocErr
     put_record(out, shown)
 }
 
+// Whether it says what most do: the priority that nobody gave, no retries and no correlation.
+fn is_usual(message: &GivenMessage) -> bool
+    ensures { result ≡ true
+        → (message.now.priority ≡ pos 1) × (message.now.retries ≡ 0) × (message.now.corr ≡ None) }
+{
+    message.priority == 1 && message.retries == 0 && message.corr.is_none()
+}
+
 fn put_message_start(out: &mut String, message: &GivenMessage) -> Result<(), AllocError>
     ensures { OnOk result (Writes out.old out.new (message_start message.now)) }
 {
@@ -69,12 +77,40 @@ fn put_message_start(out: &mut String, message: &GivenMessage) -> Result<(), All
     put_number(out, message.retries)
 }
 
-fn put_message_head(out: &mut String, message: &GivenMessage) -> Result<(), AllocError>
-    ensures { OnOk result (Writes out.old out.new (message_head message.now)) }
+fn put_each_part(out: &mut String, message: &GivenMessage) -> Result<(), AllocError>
+    ensures { OnOk result (Writes out.old out.new
+        (message_start message.now ++ codes " corr " ++ json_or_null message.now.corr)) }
 {
     put_message_start(out, message)?;
     out.push_str(" corr ")?;
-    put_json_or_null(out, &message.corr)?;
+    put_json_or_null(out, &message.corr)
+}
+
+// The parts of a usual message are one text behind its id.
+fn put_usual_parts(out: &mut String, message: &GivenMessage) -> Result<(), AllocError>
+    requires { (message.now.priority ≡ pos 1) × (message.now.retries ≡ 0) × (message.now.corr ≡ None) }
+    ensures { OnOk result (Writes out.old out.new
+        (message_start message.now ++ codes " corr " ++ json_or_null message.now.corr)) }
+{
+    put_spaced_id(out, message.id)?;
+    out.push_str(" priority 1 retries 0 corr null")
+}
+
+fn put_parts(out: &mut String, message: &GivenMessage) -> Result<(), AllocError>
+    ensures { OnOk result (Writes out.old out.new
+        (message_start message.now ++ codes " corr " ++ json_or_null message.now.corr)) }
+{
+    if is_usual(message) {
+        put_usual_parts(out, message)
+    } else {
+        put_each_part(out, message)
+    }
+}
+
+fn put_message_head(out: &mut String, message: &GivenMessage) -> Result<(), AllocError>
+    ensures { OnOk result (Writes out.old out.new (message_head message.now)) }
+{
+    put_parts(out, message)?;
     put_payload(out, &message.payload)
 }
 
