@@ -1,7 +1,7 @@
 // The text of a reply: a word, and with some words more behind it.
 ghost use Rattle.std.specs.Prelude.{◌≡◌, ◌++◌, OnOk, true, None, pos, unwrap_or, codes};
 ghost use Rattle.transcript.specs.Reply.{reply_word, payload_text, message_start, message_head, message_text, agent_text, payload_fault_word, payload_fault_place, payload_fault_text, condition_fault_text, limit_text, reply_details, reply_text};
-ghost use Rattle.transcript.specs.Text.{Writes, json_or_null};
+ghost use Rattle.transcript.specs.Text.{Writes, json_or_null, spaced_id_text};
 
 use crate::record::{put_props, put_record};
 use crate::text::{
@@ -9,7 +9,7 @@ use crate::text::{
 };
 use payload_records::{List, Name, PayloadFault};
 use queue_rows::{
-    ConditionFault, GivenMessage, LimitName, Reply, ServedAgent, SessionScript, Shown,
+    ConditionFault, GivenMessage, LimitName, MsgId, Reply, ServedAgent, SessionScript, Shown,
 };
 use std::alloc::AllocError;
 
@@ -220,8 +220,29 @@ fn put_details(
     }
 }
 
-/// Puts the text of a reply in.
-pub(crate) fn put_reply(
+// So short a word costs less by its letters.
+fn put_ok(out: &mut String) -> Result<(), AllocError>
+    ensures { OnOk result (Writes out.old out.new (codes "ok")) }
+{
+    out.push('o')?;
+    out.push('k')
+}
+
+fn put_enqueued(out: &mut String, id: MsgId) -> Result<(), AllocError>
+    ensures { OnOk result (Writes out.old out.new (codes "ok" ++ spaced_id_text id.db id.number)) }
+{
+    put_ok(out)?;
+    put_spaced_id(out, id)
+}
+
+fn put_given(out: &mut String, message: &GivenMessage) -> Result<(), AllocError>
+    ensures { OnOk result (Writes out.old out.new (codes "message" ++ message_text message.now)) }
+{
+    out.push_str("message")?;
+    put_message(out, message)
+}
+
+fn put_other(
     out: &mut String,
     scripts: &List<SessionScript>,
     reply: &Reply,
@@ -230,4 +251,20 @@ pub(crate) fn put_reply(
 {
     out.push_str(reply_word(reply))?;
     put_details(out, scripts, reply)
+}
+
+/// Puts the text of a reply in. The commonest are told apart first, and their words are at hand there.
+pub(crate) fn put_reply(
+    out: &mut String,
+    scripts: &List<SessionScript>,
+    reply: &Reply,
+) -> Result<(), AllocError>
+    ensures { OnOk result (Writes out.old out.new (reply_text scripts.now reply.now)) }
+{
+    match reply {
+        Reply::Ok => put_ok(out),
+        Reply::Enqueued(id) => put_enqueued(out, *id),
+        Reply::Message(message) => put_given(out, message.get()),
+        _ => put_other(out, scripts, reply),
+    }
 }

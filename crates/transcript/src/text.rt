@@ -1,5 +1,5 @@
 // The parts of a line: ids, slots, sessions and texts as JSON.
-ghost use Rattle.std.specs.Prelude.{◌≡◌, ◌<◌, OnOk, IfOk, option_map, Some, decimal, if◌then◌else◌};
+ghost use Rattle.std.specs.Prelude.{◌≡◌, ◌<◌, ◌∷◌, [], OnOk, IfOk, option_map, Some, decimal, if◌then◌else◌};
 ghost use Rattle.std.specs.Fmt.{signed_decimal};
 ghost use Rattle.std.specs.List.{list_all};
 ghost use Rattle.serde_json.specs.View.{view};
@@ -105,12 +105,21 @@ pub(crate) fn put_signed(out: &mut String, number: i64) -> Result<(), AllocError
     }
 }
 
+fn id_letter(db: DbId) -> char
+    ensures { (result < 128) × (letter_of db ≡ result ∷ []) }
+{
+    match db {
+        DbId::Home => 'h',
+        DbId::Away => 'a',
+    }
+}
+
 /// Puts an id in, as ` h7`, behind a space.
 pub(crate) fn put_spaced_id(out: &mut String, id: MsgId) -> Result<(), AllocError>
     ensures { OnOk result (Writes out.old out.new (spaced_id_text id.db id.number)) }
 {
     out.push(' ')?;
-    out.push_str(letter_of(id.db))?;
+    out.push(id_letter(id.db))?;
     put_number(out, id.number)
 }
 
