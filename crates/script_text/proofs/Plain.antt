@@ -12,13 +12,13 @@ use Rattle.std.proofs.lemmas.Slice.Eq.{bytes_eq-Decides}
 use Rattle.serde_json.specs.Data.{Data, null, boolean, number, string, array, object, Members, no_members, member}
 use Rattle.serde_json.specs.Find.{get, get_member}
 use Rattle.script_text.specs.declared.form.Form.{Form}
-use Rattle.script_text.specs.declared.form.Form.TheVariants.{Asking, PlainEnqueue, PlainDequeue}
+use Rattle.script_text.specs.declared.form.Form.TheVariants.{Asking, PlainDequeue}
 use Rattle.script_text.specs.declared.form.Verb.TheVariants.{Enqueue, Dequeue}
 use Rattle.script_text.specs.Line.{line_from, asking}
 use Rattle.script_text.specs.Plain as plain
 use Rattle.script_text.specs.Plain.{plain_line, plain_asking, visibility_given}
 use Rattle.script_text.specs.Form.{is_key_of, only_keys, some_if, has_form}
-use Rattle.script_text.specs.Statement.{placing_at, plain_placing, enqueue, plain_enqueue, dequeue, plain_dequeue, statement}
+use Rattle.script_text.specs.Statement.{placing_at, enqueue, dequeue, plain_dequeue, statement}
 use Rattle.script_text.proofs.Tests.{both, joined}
 
 -- ---- what it lacks
@@ -83,53 +83,16 @@ widened_choice false false false false false false false false true v wa h = ref
 widened_choice false false false false false false false false false true wa h = refl
 widened_choice false false false false false false false false false false wa h = absurd cc
 
-widened_placing : (p s o pr co re ex pp q v de ei be to : Bool) → (p || (s || o || q || v)) ≡ true
-    → (s || o || ((p || pr || co || re || ex || pp) || (q || v || de || ei || be || to))) ≡ true
-widened_placing p true o pr co re ex pp q v de ei be to h = refl
-widened_placing p false true pr co re ex pp q v de ei be to h = refl
-widened_placing true false false pr co re ex pp q v de ei be to h = refl
-widened_placing false false false true co re ex pp q v de ei be to h = refl
-widened_placing false false false false true re ex pp q v de ei be to h = refl
-widened_placing false false false false false true ex pp q v de ei be to h = refl
-widened_placing false false false false false false true pp q v de ei be to h = refl
-widened_placing false false false false false false false true q v de ei be to h = refl
-widened_placing false false false false false false false false true v de ei be to h = refl
-widened_placing false false false false false false false false false true de ei be to h = refl
-widened_placing false false false false false false false false false false de ei be to h = absurd cc
-
 dequeue_keys : (k : List ℕ) → is_key_of PlainDequeue k ≡ true → is_key_of (Asking Dequeue) k ≡ true
 dequeue_keys k has =
     widened_choice (bytes_eq k (codes "s")) (bytes_eq k (codes "do"))
     (bytes_eq k (codes "consumer")) (bytes_eq k (codes "navigation")) (bytes_eq k (codes "msgid")) (bytes_eq k (codes "corr")) (bytes_eq k (codes "condition"))
     (bytes_eq k (codes "queue")) (bytes_eq k (codes "mode")) (bytes_eq k (codes "visibility")) (bytes_eq k (codes "wait")) has
 
-enqueue_keys : (k : List ℕ) → is_key_of PlainEnqueue k ≡ true → is_key_of (Asking Enqueue) k ≡ true
-enqueue_keys k has =
-    widened_placing (bytes_eq k (codes "payload")) (bytes_eq k (codes "s")) (bytes_eq k (codes "do"))
-    (bytes_eq k (codes "priority")) (bytes_eq k (codes "corr")) (bytes_eq k (codes "recipients")) (bytes_eq k (codes "exception_queue")) (bytes_eq k (codes "props"))
-    (bytes_eq k (codes "queue")) (bytes_eq k (codes "visibility")) (bytes_eq k (codes "delay")) (bytes_eq k (codes "expiration")) (bytes_eq k (codes "before")) (bytes_eq k (codes "top")) has
-
-pub enqueue_is_asking : (d : Data) → has_form PlainEnqueue d ≡ true → has_form (Asking Enqueue) d ≡ true
-enqueue_is_asking d has = has_wider PlainEnqueue (Asking Enqueue) enqueue_keys d has
-
 pub dequeue_is_asking : (d : Data) → has_form PlainDequeue d ≡ true → has_form (Asking Dequeue) d ≡ true
 dequeue_is_asking d has = has_wider PlainDequeue (Asking Dequeue) dequeue_keys d has
 
 -- ---- what it asks
-
-pub enqueue_is_plain : (d : Data) → has_form PlainEnqueue d ≡ true → enqueue d ≡ plain_enqueue d
-unfolding enqueue placing_at plain_placing plain_enqueue
-enqueue_is_plain d has = rw (
-  lacks PlainEnqueue (codes "priority") refl d has,
-  lacks PlainEnqueue (codes "delay") refl d has,
-  lacks PlainEnqueue (codes "expiration") refl d has,
-  lacks PlainEnqueue (codes "before") refl d has,
-  lacks PlainEnqueue (codes "top") refl d has,
-  lacks PlainEnqueue (codes "corr") refl d has,
-  lacks PlainEnqueue (codes "recipients") refl d has,
-  lacks PlainEnqueue (codes "exception_queue") refl d has,
-  lacks PlainEnqueue (codes "props") refl d has,
-) refl
 
 pub dequeue_is_plain : (d : Data) → has_form PlainDequeue d ≡ true → dequeue d ≡ plain_dequeue d
 unfolding dequeue plain_dequeue
@@ -149,17 +112,10 @@ through : {A B C : Type 0} (o : Option A) (g : A → B) (f : B → Option C) →
 through None g f = refl
 through (Some a) g f = refl
 
-plain_form : (p q s : Data) (v : Option Data) → has_form PlainEnqueue (plain_line p q s v) ≡ true
-plain_form p q s None = refl
-plain_form p q s (Some d) = refl
-
-plain_ask : (p q s : Data) (v : Option Data) → plain_enqueue (plain_line p q s v) ≡ plain.plain_enqueue p q v
-unfolding plain_enqueue plain_placing plain.plain_enqueue
-plain_ask p q s None = refl
-plain_ask p q s (Some d) = through (visibility_given (Some d)) _ _
-
 ask_is_plain : (p q s : Data) (v : Option Data) → enqueue (plain_line p q s v) ≡ plain.plain_enqueue p q v
-ask_is_plain p q s v = enqueue_is_plain (plain_line p q s v) (plain_form p q s v) ∙ plain_ask p q s v
+unfolding enqueue placing_at plain.plain_enqueue
+ask_is_plain p q s None = refl
+ask_is_plain p q s (Some d) = through (visibility_given (Some d)) _ _
 
 pub line_is_plain : (p q s : Data) (v : Option Data) → line_from (plain_line p q s v) ≡ plain_asking p q s v
 unfolding line_from asking statement plain_asking

@@ -135,7 +135,6 @@ is_key_of_plain_dequeue key =
 abbrev pub is_key_of : Form → List ℕ → Bool
 is_key_of forms.Declaration key = bytes_eq key (codes "session") || bytes_eq key (codes "at")
 is_key_of (forms.Asking verb) key = bytes_eq key (codes "s") || bytes_eq key (codes "do") || is_key_of_verb verb key
-is_key_of forms.PlainEnqueue key = bytes_eq key (codes "payload") || is_key_of_plain_dequeue key
 is_key_of forms.PlainDequeue key = is_key_of_plain_dequeue key
 is_key_of forms.Recipient key = bytes_eq key (codes "name") || bytes_eq key (codes "address")
 is_key_of forms.Agent key = bytes_eq key (codes "queue") || bytes_eq key (codes "consumer")

@@ -1,5 +1,5 @@
 -- The statement that a line asks.
-use Rattle.std.specs.Prelude.{ℕ, ℤ, pos, List, [], codes, ◌&&◌, true, false, Option, Some, None, is_some, option_map, option_and_then, if◌then◌else◌}
+use Rattle.std.specs.Prelude.{ℕ, ℤ, pos, List, codes, ◌&&◌, true, false, Option, Some, None, is_some, option_map, option_and_then, if◌then◌else◌}
 use Rattle.serde_json.specs.Data.{Data}
 use Rattle.aq_base.specs.declared.limits.TheConstants.{MAX_RETRIES_LIMIT, TIME_LIMIT, MOMENT_LIMIT, WAIT_LIMIT, CORRELATION_LIMIT, CONDITION_LIMIT}
 use Rattle.queue_rows.specs.declared.statement.Admin.{Admin}
@@ -182,40 +182,6 @@ enqueue d = do
     before = placing.before;
     top = placing.top;
     props = props;
-  })
-
--- how a message is put in where nothing but its visibility may be said
-unfoldable pub plain_placing : Data → Option Placing
-plain_placing d = do
-  visibility ← visibility_at d
-  Some (record {
-    visibility = visibility;
-    priority = pos 1;
-    delay = 0;
-    expiration = None;
-    before = None;
-    top = false;
-  })
-
--- an enqueue of which nothing is said that is mostly left out
-unfoldable pub plain_enqueue : Data → Option Enqueue
-plain_enqueue d = do
-  placing ← plain_placing d
-  queue ← name_at (codes "queue") d
-  payload ← payload_at d
-  Some (record {
-    queue = queue;
-    payload = payload;
-    visibility = placing.visibility;
-    priority = placing.priority;
-    delay = placing.delay;
-    expiration = placing.expiration;
-    corr = None;
-    recipients = None;
-    exception_queue = None;
-    before = placing.before;
-    top = placing.top;
-    props = [];
   })
 
 -- not at all where nothing is said

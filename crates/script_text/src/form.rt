@@ -12,8 +12,6 @@ pub enum Form {
     Declaration,
     /// A line has a session ask a statement.
     Asking(Verb),
-    /// A line has a session enqueue, with none of the members that are mostly left out.
-    PlainEnqueue,
     /// A line has a session dequeue, with none of the members that are mostly left out.
     PlainDequeue,
     /// A recipient is listed with its address.
@@ -266,7 +264,6 @@ fn is_key_of(form: Form, key: &str) -> bool
     match form {
         Form::Declaration => key == "session" || key == "at",
         Form::Asking(verb) => key == "s" || key == "do" || is_key_of_verb(verb, key),
-        Form::PlainEnqueue => key == "payload" || is_key_of_plain_dequeue(key),
         Form::PlainDequeue => is_key_of_plain_dequeue(key),
         Form::Recipient => key == "name" || key == "address",
         Form::Agent => key == "queue" || key == "consumer",

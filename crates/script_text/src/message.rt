@@ -4,8 +4,8 @@ ghost use Rattle.serde_json.specs.View.{view};
 ghost use Rattle.queue_rows.specs.Within.{is_priority, is_enqueue_within, is_dequeue_within, is_listen_within};
 ghost use Rattle.script_text.specs.Readable.{is_placing_within};
 ghost use Rattle.script_text.specs.Form.{has_form};
-ghost use Rattle.script_text.specs.declared.form.Form.TheVariants.{PlainEnqueue, PlainDequeue};
-ghost use Rattle.script_text.specs.Statement.{priority_at, placing_at, plain_placing, plain_enqueue, enqueue, plain_dequeue, dequeue, listen};
+ghost use Rattle.script_text.specs.declared.form.Form.TheVariants.{PlainDequeue};
+ghost use Rattle.script_text.specs.Statement.{priority_at, placing_at, enqueue, plain_dequeue, dequeue, listen};
 
 use crate::fault::LineFault;
 use crate::listed::{agents_at, recipients_at};
@@ -64,49 +64,6 @@ fn placing_at(value: &Value) -> Result<Placing, LineFault>
         return Err(LineFault::Bad);
     }
     Ok(placing)
-}
-
-#[tactic(auto, unfolding(crate::specs::Statement::plain_placing))]
-fn plain_placing(value: &Value) -> Result<Placing, LineFault>
-    ensures ok { IfOk result (λ placing. plain_placing (view value.now) ≡ Some placing) }
-    ensures within { IfOk result (λ placing. is_placing_within placing ≡ true) }
-    ensures bad { IsErrOf result LineFault.Bad → plain_placing (view value.now) ≡ None }
-{
-    Ok(Placing {
-        visibility: visibility_at(value)?,
-        priority: 1,
-        delay: 0,
-        expiration: None,
-        before: None,
-        top: false,
-    })
-}
-
-/// What is put into a queue by an enqueue of which nothing is said that is mostly left out. Nothing is looked up that is not there.
-#[tactic(auto, unfolding(crate::specs::Statement::plain_enqueue), using(crate::proofs::Plain::enqueue_is_plain))]
-pub fn plain_enqueue(alloc: Global, value: &Value) -> Result<Enqueue, LineFault>
-    requires { has_form PlainEnqueue (view value.now) ≡ true }
-    ensures ok { IfOk result (λ ask. enqueue (view value.now) ≡ Some ask) }
-    ensures within { IfOk result (λ ask. is_enqueue_within ask ≡ true) }
-    ensures bad { IsErrOf result LineFault.Bad → enqueue (view value.now) ≡ None }
-{
-    let placing = plain_placing(value)?;
-    let queue = name_at(alloc, value, "queue")?;
-    let payload = payload_at(alloc, value)?;
-    Ok(Enqueue {
-        queue,
-        payload,
-        visibility: placing.visibility,
-        priority: placing.priority,
-        delay: placing.delay,
-        expiration: placing.expiration,
-        corr: None,
-        recipients: None,
-        exception_queue: None,
-        before: placing.before,
-        top: placing.top,
-        props: List::new(alloc),
-    })
 }
 
 /// What is put into a queue.

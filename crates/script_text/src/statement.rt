@@ -50,8 +50,8 @@ fn verb_at(value: &Value) -> Option<Verb>
     verb_of(text_at(value, "do")?)
 }
 
-// The statement that a line asks which has none of the members that are mostly left out, as most lines have. Of others nothing is told.
-#[tactic(auto, using(crate::proofs::Plain::enqueue_is_asking, crate::proofs::Plain::dequeue_is_asking), unfolding(queue_rows::specs::Within::is_within))]
+// What a dequeue asks that has none of the members that are mostly left out, as most have. Of others nothing is told.
+#[tactic(auto, using(crate::proofs::Plain::dequeue_is_asking), unfolding(queue_rows::specs::Within::is_within))]
 fn plain_statement(alloc: Global, verb: Verb, value: &Value) -> Result<Option<Statement>, LineFault>
     ensures some { IfOk result (λ plain. IfSome plain (λ s. statement_if (view value.now) verb ≡ Some s)) }
     ensures within { IfOk result (λ plain. IfSome plain (λ s. is_within s ≡ true)) }
@@ -59,9 +59,6 @@ fn plain_statement(alloc: Global, verb: Verb, value: &Value) -> Result<Option<St
     ensures bad { IsErrOf result LineFault.Bad → statement_if (view value.now) verb ≡ None }
 {
     match verb {
-        Verb::Enqueue if has_form(Form::PlainEnqueue, value) => Ok(Some(Statement::Enqueue(
-            message::plain_enqueue(alloc, value)?,
-        ))),
         Verb::Dequeue if has_form(Form::PlainDequeue, value) => Ok(Some(Statement::Dequeue(
             message::plain_dequeue(alloc, value)?,
         ))),
