@@ -1,5 +1,6 @@
 // The text of a reply: a word, and with some words more behind it.
 ghost use Rattle.std.specs.Prelude.{◌≡◌, ◌++◌, OnOk, true, None, pos, unwrap_or, codes};
+ghost use Rattle.std.specs.Bool.{Decides};
 ghost use Rattle.transcript.specs.Reply.{reply_word, payload_text, message_start, message_head, message_text, agent_text, payload_fault_word, payload_fault_place, payload_fault_text, condition_fault_text, limit_text, reply_details, reply_text};
 ghost use Rattle.transcript.specs.Text.{Writes, json_or_null, spaced_id_text};
 
@@ -61,8 +62,8 @@ fn put_payload(out: &mut String, payload: &Option<Shown>) -> Result<(), AllocErr
 
 // Whether it says what most do: the priority that nobody gave, no retries and no correlation.
 fn is_usual(message: &GivenMessage) -> bool
-    ensures { result ≡ true
-        → (message.now.priority ≡ pos 1) × (message.now.retries ≡ 0) × (message.now.corr ≡ None) }
+    ensures { Decides result
+        ((message.now.priority ≡ pos 1) × (message.now.retries ≡ 0) × (message.now.corr ≡ None)) }
 {
     message.priority == 1 && message.retries == 0 && message.corr.is_none()
 }
