@@ -13,7 +13,7 @@ use Rattle.serde_json.specs.Data.{Data, null, boolean, number, string, array, ob
 use Rattle.serde_json.specs.Find.{get, get_member}
 use Rattle.script_text.specs.declared.form.Form.{Form}
 use Rattle.script_text.specs.declared.form.Form.TheVariants.{Asking, PlainDequeue}
-use Rattle.script_text.specs.declared.form.Verb.TheVariants.{Enqueue, Dequeue}
+use Rattle.script_text.specs.declared.form.Verb.TheVariants.{Dequeue}
 use Rattle.script_text.specs.Line.{line_from, asking}
 use Rattle.script_text.specs.Plain as plain
 use Rattle.script_text.specs.Plain.{plain_line, plain_asking, visibility_given}
