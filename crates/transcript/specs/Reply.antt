@@ -1,5 +1,5 @@
 -- The text of a reply: a word, and with some words more behind it.
-use Rattle.std.specs.Prelude.{ℕ, ◌++◌, List, [], codes, decimal, Option, Some, None, unwrap_or}
+use Rattle.std.specs.Prelude.{◌≡◌, ℕ, ◌++◌, List, [], codes, decimal, pos, Option, Some, None, unwrap_or}
 use Rattle.std.specs.Fmt.{signed_decimal}
 use Rattle.payload_records.specs.declared.record.PayloadFault.{PayloadFault}
 use Rattle.payload_records.specs.declared.record.PayloadFault.TheVariants as payloads
@@ -52,6 +52,10 @@ reply_word replies.NoSchedule = codes "no-schedule"
 abbrev pub payload_text : Option Shown → List ℕ
 payload_text None = []
 payload_text (Some shown) = codes " " ++ record_text shown
+
+-- it says what most do: the priority that nobody gave, no retries and no correlation
+abbrev pub IsUsual : GivenMessage → Type 0
+IsUsual m = (m.priority ≡ pos 1) × (m.retries ≡ 0) × (m.corr ≡ None)
 
 -- which message it is, and how it stood
 abbrev pub message_start : GivenMessage → List ℕ

@@ -1,7 +1,7 @@
 // The text of a reply: a word, and with some words more behind it.
-ghost use Rattle.std.specs.Prelude.{◌≡◌, ◌++◌, OnOk, true, None, pos, unwrap_or, codes};
+ghost use Rattle.std.specs.Prelude.{◌≡◌, ◌++◌, OnOk, unwrap_or, codes};
 ghost use Rattle.std.specs.Bool.{Decides};
-ghost use Rattle.transcript.specs.Reply.{reply_word, payload_text, message_start, message_head, message_text, agent_text, payload_fault_word, payload_fault_place, payload_fault_text, condition_fault_text, limit_text, reply_details, reply_text};
+ghost use Rattle.transcript.specs.Reply.{IsUsual, reply_word, payload_text, message_start, message_head, message_text, agent_text, payload_fault_word, payload_fault_place, payload_fault_text, condition_fault_text, limit_text, reply_details, reply_text};
 ghost use Rattle.transcript.specs.Text.{Writes, json_or_null, spaced_id_text};
 
 use crate::record::{put_props, put_record};
@@ -62,8 +62,7 @@ fn put_payload(out: &mut String, payload: &Option<Shown>) -> Result<(), AllocErr
 
 // Whether it says what most do: the priority that nobody gave, no retries and no correlation.
 fn is_usual(message: &GivenMessage) -> bool
-    ensures { Decides result
-        ((message.now.priority ≡ pos 1) × (message.now.retries ≡ 0) × (message.now.corr ≡ None)) }
+    ensures { Decides result (IsUsual message.now) }
 {
     message.priority == 1 && message.retries == 0 && message.corr.is_none()
 }
@@ -89,7 +88,7 @@ fn put_each_part(out: &mut String, message: &GivenMessage) -> Result<(), AllocEr
 
 // The parts of a usual message are one text behind its id.
 fn put_usual_parts(out: &mut String, message: &GivenMessage) -> Result<(), AllocError>
-    requires { (message.now.priority ≡ pos 1) × (message.now.retries ≡ 0) × (message.now.corr ≡ None) }
+    requires { IsUsual message.now }
     ensures { OnOk result (Writes out.old out.new
         (message_start message.now ++ codes " corr " ++ json_or_null message.now.corr)) }
 {
