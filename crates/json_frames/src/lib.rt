@@ -1,0 +1,4 @@
+//! JSON texts that are the same but for one object that stands in them.
+#![tactic(auto)]
+
+mod mode;
