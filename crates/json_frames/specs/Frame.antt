@@ -57,7 +57,7 @@ fill (slot key None rest) d = member key d (fill rest d)
 fill (slot key (Some has) rest) d = member key has (fill rest d)
 
 -- whichever object stands between the two texts, the whole is one object that is the same but for it
-pub IsFrame : List ℕ → List ℕ → Type 0
+unfoldable pub IsFrame : List ℕ → List ℕ → Type 0
 IsFrame front back = (slots : Slots)
     × ((inner : List ℕ) (d : Data) → is_flat inner ≡ true → value_of inner ≡ Some d
-        → value_of (front ++ inner ++ back) ≡ Some (object (fill slots d)))
+        → value_of (front ++ (inner ++ back)) ≡ Some (object (fill slots d)))

@@ -1,0 +1,178 @@
+-- From one object that stands in a frame to all.
+use Rattle.std.proofs.Common.{◌≡◌, ℕ, suc, ◌+◌, ◌≤◌, List, [], ◌∷◌, ◌++◌, Bool, true, false, cond, Option, Some, None, inl, inr, ⊎_elim, IsUtf8, refl, sym, ap, ◌∙◌, subst, arith, append_assoc, append-nil}
+use Rattle.std.specs.Prelude.{is_some, option_map, option_and_then}
+use Rattle.std.specs.Str.{is_utf8}
+use Rattle.std.proofs.lemmas.Bool.{and_parts, false≢true}
+use Rattle.std.proofs.lemmas.Str.{IsUtf8-append, IsUtf8-from_is_utf8, is_utf8-from_IsUtf8}
+use Rattle.json.specs.Token.{Token}
+use Rattle.json.specs.Lex.{Lexeme, token, colon, between, lex, Place, fresh, after_value, punctuate, tokens}
+use Rattle.json.specs.Json as json
+use Rattle.json.specs.Json.{Json, value, if_last}
+use Rattle.json.specs.Tree.{json_tokens, depth, members_depth}
+use Rattle.json.proofs.Found.{Some_inj, not_found}
+use Rattle.json.proofs.Nesting.{value-depth}
+use Rattle.json.proofs.Printed.Trees.{value-json_tokens}
+use Rattle.json.proofs.Unique.Spelling.{value-json_tokens_back}
+use Rattle.serde_json.specs.Data.{Data, object, Members, no_members}
+use Rattle.serde_json.specs.Read.{of_json, of_members, read}
+use Rattle.json_frames.specs.Frame.{is_open, is_front, is_flat, value_of, Slots, fill, IsFrame}
+use Rattle.json_frames.proofs.Flat.{none_opens, no_lexeme_opens}
+use Rattle.json_frames.proofs.Holes.{never_bad, Holes, fill_json, opened, flat_depth, filled}
+use Rattle.json_frames.proofs.Lexing.{lex-joined, lex_front, lex_flat}
+use Rattle.json_frames.proofs.Punctuating.{front_tokens, inner_tokens}
+
+-- ---- what was read
+
+pub record Reads (text : List ℕ) (d : Data) : Type 0 where
+  pub tree : Json
+  pub spelt : tokens text ≡ json_tokens tree
+  pub meant : of_json tree ≡ Some d
+  pub nested : depth tree ≤ 127
+
+parsed : (text : List ℕ) (d : Data) (o : Option (Json × List Token)) → value 127 (tokens text) ≡ o → option_and_then of_json (option_and_then (λ p. if_last p.0 p.1) o) ≡ Some d → Reads text d
+parsed text d None v e = not_found d e
+parsed text d (Some (j, [])) v e = record { tree = j; spelt = value-json_tokens_back 127 (tokens text) [] j v ∙ append-nil (json_tokens j); meant = e; nested = value-depth 127 (tokens text) [] j v }
+parsed text d (Some (j, (t ∷ ts))) v e = not_found d e
+
+reads : (text : List ℕ) (d : Data) → read text ≡ Some d → Reads text d
+reads text d e = parsed text d (value 127 (tokens text)) refl e
+
+reads_back : (text : List ℕ) (j : Json) (d : Data) → tokens text ≡ json_tokens j → depth j ≤ 127 → of_json j ≡ Some d → read text ≡ Some d
+reads_back text j d spelt nested meant =
+    let back : value 127 (tokens text) ≡ Some (j, []) = ap (value 127) (spelt ∙ sym (append-nil (json_tokens j))) ∙ value-json_tokens j 127 [] nested in
+    ap (λ o. option_and_then of_json (option_and_then (λ p. if_last p.0 p.1) o)) back ∙ meant
+
+-- the front and the last lexeme of what begins an object
+opens_with : (ls : List Lexeme) → punctuate fresh (token Token.begin_object ∷ ls) ≡ Token.begin_object ∷ punctuate fresh ls
+unfolding punctuate
+opens_with ls = refl
+
+nothing_more : punctuate after_value [] ≡ []
+unfolding punctuate
+nothing_more = refl
+
+abbrev is_begin : Token → Bool
+is_begin Token.begin_object = true
+is_begin Token.end_object = false
+is_begin Token.begin_array = false
+is_begin Token.end_array = false
+is_begin (Token.key s) = false
+is_begin (Token.string s) = false
+is_begin (Token.number s) = false
+is_begin (Token.boolean b) = false
+is_begin Token.null = false
+is_begin Token.bad = false
+
+abbrev begins : List Token → Bool
+begins [] = false
+begins (t ∷ ts) = is_begin t
+
+-- a tree whose tokens begin an object is one
+object_of : (j : Json) (ts : List Token) → json_tokens j ≡ Token.begin_object ∷ ts → (m : json.Members) × (j ≡ json.object m)
+object_of json.null ts e = absurd (false≢true (ap begins e))
+object_of (json.boolean b) ts e = absurd (false≢true (ap begins e))
+object_of (json.number s) ts e = absurd (false≢true (ap begins e))
+object_of (json.string s) ts e = absurd (false≢true (ap begins e))
+object_of (json.array js) ts e = absurd (false≢true (ap begins e))
+object_of (json.object m) ts e = (m, refl)
+
+-- ---- a flat object
+
+record Flat (inner : List ℕ) (d : Data) : Type 0 where
+  members : json.Members
+  meant : of_json (json.object members) ≡ Some d
+  shallow : depth (json.object members) ≤ 1
+  within : (behind : List Lexeme) → punctuate fresh (lex between inner ++ behind) ≡ json_tokens (json.object members) ++ punctuate after_value behind
+
+flat : (inner : List ℕ) (d : Data) → is_flat inner ≡ true → read inner ≡ Some d → Flat inner d
+flat inner d is e =
+    let r = reads inner d e in
+    let l = lex_flat inner is in
+    let p = inner_tokens l.0 l.1.1 in
+    let spelt : json_tokens r.tree ≡ Token.begin_object ∷ punctuate fresh (l.0 ++ token Token.end_object ∷ []) = sym r.spelt ∙ ap (punctuate fresh) l.1.0 ∙ opens_with _ in
+    elim p.1.1 [
+    | inr faulty ↦ absurd (never_bad r.tree (Token.begin_object ∷ p.0) (spelt ∙ ap (λ ts. Token.begin_object ∷ ts) (faulty [])))
+    | inl goes ↦
+        let whole : json_tokens r.tree ≡ Token.begin_object ∷ (p.0 ++ Token.end_object ∷ []) =
+            spelt ∙ ap (λ ts. Token.begin_object ∷ ts) (goes [] ∙ ap (λ ts. p.0 ++ Token.end_object ∷ ts) nothing_more) in
+        let o = object_of r.tree _ whole in
+        let own : json_tokens (json.object o.0) ≡ Token.begin_object ∷ (p.0 ++ Token.end_object ∷ []) = ap json_tokens (sym o.1) ∙ whole in
+        record {
+          members = o.0;
+          meant = ap of_json (sym o.1) ∙ r.meant;
+          shallow = flat_depth p.0 o.0 p.1.0 own;
+          within = λ behind.
+              ap (λ ls. punctuate fresh (ls ++ behind)) l.1.0 ∙ opens_with _
+              ∙ ap (λ ls. Token.begin_object ∷ punctuate fresh ls) (append_assoc l.0 (token Token.end_object ∷ []) behind)
+              ∙ ap (λ ts. Token.begin_object ∷ ts) (goes behind ∙ sym (append_assoc p.0 (Token.end_object ∷ []) (punctuate after_value behind)))
+              ∙ ap (λ ts. ts ++ punctuate after_value behind) (sym own);
+        }
+    ]
+
+empty_reads : read (123 ∷ 125 ∷ []) ≡ Some (object no_members)
+unfolding lex punctuate value json.members
+empty_reads = refl
+
+-- ---- the whole
+
+some_of : {A : Type 0} (o : Option A) → is_some o ≡ true → (a : A) × (o ≡ Some a)
+some_of None e = absurd (false≢true e)
+some_of (Some a) e = (a, refl)
+
+mapped : (o : Option Members) (d : Data) → option_map object o ≡ Some d → (m : Members) × (o ≡ Some m)
+mapped None d e = not_found d e
+mapped (Some m) d e = (m, refl)
+
+chosen : (b : Bool) (o : Option Data) (d : Data) → cond b o None ≡ Some d → (b ≡ true) × (o ≡ Some d)
+chosen true o d e = (refl, e)
+chosen false o d e = not_found d e
+
+valued : (text : List ℕ) (d : Data) → IsUtf8 text → read text ≡ Some d → value_of text ≡ Some d
+valued text d u e = ap (λ b. cond b (read text) None) (is_utf8-from_IsUtf8 text u) ∙ e
+
+module _ (front back : List ℕ) (is : is_front front ≡ true) (u : IsUtf8 front) (v : IsUtf8 back) where
+  lexed : (ls : List Lexeme) × ((lex between front ≡ token Token.begin_object ∷ (ls ++ colon ∷ [])) × (no_lexeme_opens ls ≡ true))
+  lexed = lex_front front is
+
+  behind_front : (rest : List ℕ) → tokens (front ++ rest) ≡ Token.begin_object ∷ punctuate fresh (lexed.0 ++ colon ∷ lex between rest)
+  behind_front rest =
+      ap (punctuate fresh) (lex-joined front rest (and_parts (is_open front) _ is).0 ∙ ap (λ ls. ls ++ lex between rest) lexed.1.0) ∙ opens_with _
+      ∙ ap (λ ls. Token.begin_object ∷ punctuate fresh ls) (append_assoc lexed.0 (colon ∷ []) (lex between rest))
+
+  module _ (ts : List Token) (goes : (rest : List Lexeme) → punctuate fresh (lexed.0 ++ colon ∷ rest) ≡ ts ++ punctuate fresh rest) where
+    around : (inner : List ℕ) (d : Data) → is_flat inner ≡ true → (f : Flat inner d)
+        → tokens (front ++ (inner ++ back)) ≡ Token.begin_object ∷ (ts ++ (json_tokens (json.object f.members) ++ punctuate after_value (lex between back)))
+    around inner d flat_is f =
+        behind_front (inner ++ back) ∙ ap (λ l. Token.begin_object ∷ l) (goes (lex between (inner ++ back)))
+        ∙ ap (λ ls. Token.begin_object ∷ (ts ++ punctuate fresh ls)) (lex-joined inner back (and_parts (is_open inner) _ flat_is).0)
+        ∙ ap (λ l. Token.begin_object ∷ (ts ++ l)) (f.within (lex between back))
+
+    framed : none_opens ts ≡ true → (whole : Data) → read (front ++ ((123 ∷ 125 ∷ []) ++ back)) ≡ Some whole → IsFrame front back
+    unfolding IsFrame
+    framed plain whole e =
+        let r = reads _ whole e in
+        let sample = flat (123 ∷ 125 ∷ []) (object no_members) refl empty_reads in
+        let spelt = sym r.spelt ∙ around (123 ∷ 125 ∷ []) (object no_members) refl sample in
+        let o = object_of r.tree _ spelt in
+        let h = opened ts (punctuate after_value (lex between back)) o.0 sample.members plain (ap json_tokens (sym o.1) ∙ spelt) in
+        let m = mapped (of_members (fill_json h.0 (json.object sample.members)) no_members) whole (ap (λ x. of_json (json.object x)) (sym h.1.0) ∙ ap of_json (sym o.1) ∙ r.meant) in
+        let s = filled h.0 (json.object sample.members) m.0 (object no_members) sample.meant m.1 in
+        (s.0, λ inner d flat_is said.
+            (let known = chosen (is_utf8 inner) (read inner) d said in
+            let f = flat inner d flat_is known.1 in
+            let tree = json.object (fill_json h.0 (json.object f.members)) in
+            let deep : depth tree ≤ 127 = omega (arith, r.nested, ap depth o.1, h.1.1.1 (json.object f.members) 126 (omega (arith, r.nested, ap depth o.1)) (omega (arith, f.shallow))) in
+            valued (front ++ (inner ++ back)) (object (fill s.0 d)) (IsUtf8-append front (inner ++ back) u (IsUtf8-append inner back (IsUtf8-from_is_utf8 inner known.0) v))
+            (reads_back (front ++ (inner ++ back)) tree (object (fill s.0 d)) (around inner d flat_is f ∙ sym (h.1.1.0 (json.object f.members))) deep
+            (ap (option_map object) (s.1.1 (json.object f.members) d f.meant)))))
+
+  pub from_sample : is_some (read (front ++ ((123 ∷ 125 ∷ []) ++ back))) ≡ true → IsFrame front back
+  from_sample e =
+      let w = some_of (read (front ++ ((123 ∷ 125 ∷ []) ++ back))) e in
+      let p = front_tokens lexed.0 lexed.1.1 in
+      elim p.1.1 [
+      | inl goes ↦ framed p.0 goes p.1.0 w.0 w.1
+      | inr faulty ↦
+          let r = reads _ w.0 w.1 in
+          absurd (never_bad r.tree (Token.begin_object ∷ p.0) (sym r.spelt ∙ behind_front _ ∙ ap (λ l. Token.begin_object ∷ l) (faulty _)))
+      ]
