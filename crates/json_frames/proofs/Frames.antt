@@ -15,7 +15,7 @@ use Rattle.json.proofs.Printed.Trees.{value-json_tokens}
 use Rattle.json.proofs.Unique.Spelling.{value-json_tokens_back}
 use Rattle.serde_json.specs.Data.{Data, object, Members, no_members}
 use Rattle.serde_json.specs.Read.{of_json, of_members, read}
-use Rattle.json_frames.specs.Frame.{is_open, is_front, is_flat, value_of, Slots, fill, IsFrame}
+use Rattle.json_frames.specs.Frame.{is_open, is_front, is_flat, json_of, Slots, fill, IsFrame}
 use Rattle.json_frames.proofs.Flat.{none_opens, no_lexeme_opens}
 use Rattle.json_frames.proofs.Holes.{never_bad, Holes, fill_json, opened, flat_depth, filled}
 use Rattle.json_frames.proofs.Lexing.{lex-joined, lex_front, lex_flat}
@@ -127,7 +127,7 @@ chosen : (b : Bool) (o : Option Data) (d : Data) → cond b o None ≡ Some d �
 chosen true o d e = (refl, e)
 chosen false o d e = not_found d e
 
-valued : (text : List ℕ) (d : Data) → IsUtf8 text → read text ≡ Some d → value_of text ≡ Some d
+valued : (text : List ℕ) (d : Data) → IsUtf8 text → read text ≡ Some d → json_of text ≡ Some d
 valued text d u e = ap (λ b. cond b (read text) None) (is_utf8-from_IsUtf8 text u) ∙ e
 
 module _ (front back : List ℕ) (is : is_front front ≡ true) (u : IsUtf8 front) (v : IsUtf8 back) where

@@ -42,8 +42,8 @@ abbrev pub is_flat : List ℕ → Bool
 is_flat text = is_open text && ends_at 125 text
 
 -- the JSON value that a text is
-abbrev pub value_of : List ℕ → Option Data
-value_of text = if is_utf8 text then read text else None
+abbrev pub json_of : List ℕ → Option Data
+json_of text = if is_utf8 text then read text else None
 
 -- an object's members, some of them still without their value
 pub data Slots : Type 0 where
@@ -59,5 +59,5 @@ fill (slot key (Some has) rest) d = member key has (fill rest d)
 -- whichever object stands between the two texts, the whole is one object that is the same but for it
 unfoldable pub IsFrame : List ℕ → List ℕ → Type 0
 IsFrame front back = (slots : Slots)
-    × ((inner : List ℕ) (d : Data) → is_flat inner ≡ true → value_of inner ≡ Some d
-        → value_of (front ++ (inner ++ back)) ≡ Some (object (fill slots d)))
+    × ((inner : List ℕ) (d : Data) → is_flat inner ≡ true → json_of inner ≡ Some d
+        → json_of (front ++ (inner ++ back)) ≡ Some (object (fill slots d)))

@@ -138,6 +138,7 @@ fn copied(alloc: Global, bytes: &[u8]) -> Result<Vec<u8>, AllocError>
 
 fn framed(alloc: Global, front: &[u8], back: &[u8]) -> Result<Frame, AllocError>
     requires { IsFrame front.now back.now }
+    ensures { IfOk result (λ frame. frame ≡ (front.now, back.now)) }
 {
     let front = copied(alloc, front)?;
     let back = copied(alloc, back)?;
@@ -148,7 +149,9 @@ impl Frame {
     /// The text around the first object within a text, where it is known that any flat object may stand there: the text is a JSON
     /// object, and before that one it has no list, no other object and no escape.
     #[tactic(auto, using(crate::proofs::Frames::from_sample))]
-    pub fn around(alloc: Global, text: &[u8]) -> Result<Option<Frame>, AllocError> {
+    pub fn around(alloc: Global, text: &[u8]) -> Result<Option<Frame>, AllocError>
+        ensures { IfOk result (λ found. IfSome found (λ frame. IsFrame frame.0 frame.1)) }
+    {
         let Some((front, back)) = cut(text) else {
             return Ok(None);
         };

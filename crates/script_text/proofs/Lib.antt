@@ -1,4 +1,5 @@
 pub mod Cuts
+pub mod Enqueues
 pub mod Feeds
 pub mod Front
 pub mod Growth

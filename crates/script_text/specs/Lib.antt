@@ -1,3 +1,4 @@
+pub mod Alike
 pub mod Form
 pub mod Line
 pub mod Member

@@ -1,10 +1,9 @@
 -- What one line says.
 use Rattle.std.specs.Prelude.{ℕ, ◌||◌, ◌==◌, nat_le, List, length, codes, Bool, Option, Some, None, is_some, option_and_then, if◌then◌else◌}
 use Rattle.std.specs.List.{list_all}
-use Rattle.std.specs.Str.{is_utf8}
 use Rattle.serde_json.specs.Data.{Data}
 use Rattle.serde_json.specs.Find.{get}
-use Rattle.serde_json.specs.Read.{read}
+use Rattle.json_frames.specs.Frame.{json_of}
 use Rattle.aq_base.specs.declared.limits.TheConstants.{LINE_LIMIT}
 use Rattle.script_text.specs.declared.form.Form.TheVariants.{Declaration}
 use Rattle.script_text.specs.declared.line.Line.{Line}
@@ -13,10 +12,6 @@ use Rattle.script_text.specs.Form.{has_form}
 use Rattle.script_text.specs.Member.{◌>>=◌, name_at}
 use Rattle.script_text.specs.Parts.{session_at, place_at}
 use Rattle.script_text.specs.Statement.{statement}
-
--- the JSON value that a line is
-abbrev pub json_of : List ℕ → Option Data
-json_of line = if is_utf8 line then read line else None
 
 -- a space, a tab or a carriage return
 abbrev pub is_blank : ℕ → Bool

@@ -1,9 +1,12 @@
 // Lines that were read, for lines that are the same.
-ghost use Rattle.std.specs.Prelude.{◌≡◌, IfSome, Some};
+ghost use Rattle.std.specs.Prelude.{◌≡◌, IfSome, Some, true};
+ghost use Rattle.payload_records.specs.Name.{is_name};
+ghost use Rattle.script_text.specs.Alike.{IsAlike};
 ghost use Rattle.script_text.specs.Line.{line_of};
 ghost use Rattle.script_text.specs.Readable.{IsReadable};
 ghost use Rattle.script_text.specs.declared.line.Line.TheVariants.{Asked};
 
+use crate::alike::{EarlierEnqueue, EarlierEnqueues};
 use payload_records::{Copied, Name, Shared};
 use queue_rows::Statement;
 use std::alloc::{AllocError, Global};
@@ -120,10 +123,10 @@ const PLACES: usize = 4096;
 /// What mixes a sum. It is odd, so that sums that differ stay so, and its bits follow no pattern.
 const FACTOR: u64 = 0x9E37_79B9_7F4A_7C15;
 
-// Where a line is kept, if it is: lines that are the same have the same place. Bytes are taken eight at a time.
-fn place_of(line: &[u8]) -> usize {
-    let mut sum = line.len() as u64;
-    let mut rest = line;
+/// A sum of bytes, the same for the same ones. They are taken eight at a time.
+pub fn sum_of(bytes: &[u8]) -> u64 {
+    let mut sum = bytes.len() as u64;
+    let mut rest = bytes;
     while let Some((first, behind)) = rest.split_first_chunk::<8>() {
         sum = (sum ^ u64::from_le_bytes(*first)).wrapping_mul(FACTOR);
         rest = behind;
@@ -131,13 +134,19 @@ fn place_of(line: &[u8]) -> usize {
     for byte in rest {
         sum = sum.wrapping_mul(31).wrapping_add(u64::from(*byte));
     }
-    (sum.wrapping_mul(FACTOR) >> 52) as usize
+    sum.wrapping_mul(FACTOR) >> 40
+}
+
+// Where a line is kept, if it is: lines that are the same have the same place.
+fn place_of(line: &[u8]) -> usize {
+    sum_of(line) as usize % PLACES
 }
 
 /// Lines that were read, of those that scripts mostly say again and again: the last one of each place.
 #[derive(Drop)]
 pub struct EarlierLines {
     places: Vec<EarlierLine>,
+    enqueues: EarlierEnqueues,
 }
 
 impl EarlierLines {
@@ -150,7 +159,10 @@ impl EarlierLines {
                 break;
             }
         }
-        EarlierLines { places }
+        EarlierLines {
+            places,
+            enqueues: EarlierEnqueues::new(alloc),
+        }
     }
 
     /// What is kept of a line that is the same, if one is.
@@ -161,7 +173,16 @@ impl EarlierLines {
         self.places.get(place_of(line))?.same(line)
     }
 
-    /// Keeps a line that was read, where such lines mostly come again.
+    /// An enqueue of which a line may be the same but for the payload, if one is kept.
+    pub fn near(&self, line: &[u8]) -> Option<&EarlierEnqueue>
+        ensures { IfSome result (λ e. IsAlike e.now.frame.0 e.now.frame.1 e.now.session e.now.queue e.now.visibility
+            × (is_name e.now.queue ≡ true)) }
+    {
+        self.enqueues.near(line)
+    }
+
+    /// Keeps a line that was read, where the same lines mostly come again, or such that are the same but for the payload.
+    #[tactic(auto, unfolding(queue_rows::specs::Within::is_within))]
     pub fn note(
         &mut self,
         alloc: Global,
@@ -173,6 +194,9 @@ impl EarlierLines {
         requires said { line_of line.now ≡ Some (Asked session statement.now) }
         requires readable { IsReadable statement.now }
     {
+        if let Statement::Enqueue(ask) = &**statement {
+            return self.enqueues.note(alloc, line, session, at, ask);
+        }
         if !is_repeated(statement) {
             return Ok(());
         }

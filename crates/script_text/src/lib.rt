@@ -2,6 +2,7 @@
 #![tactic(auto)]
 
 mod admin;
+mod alike;
 mod earlier;
 mod fault;
 mod form;

@@ -2,7 +2,8 @@
 ghost use Rattle.std.specs.Prelude.{◌≡◌, IfOk, IsErrOf, Some, None};
 ghost use Rattle.std.specs.List.{list_all};
 ghost use Rattle.serde_json.specs.View.{view};
-ghost use Rattle.script_text.specs.Line.{json_of, is_blank, declaration, asking, line_from, line_of};
+ghost use Rattle.json_frames.specs.Frame.{json_of};
+ghost use Rattle.script_text.specs.Line.{is_blank, declaration, asking, line_from, line_of};
 ghost use Rattle.script_text.specs.Readable.{IsReadableLine};
 
 use crate::fault::LineFault;
@@ -38,7 +39,8 @@ pub enum Line {
     },
 }
 
-fn json(alloc: Global, line: &[u8]) -> Result<Value, LineFault>
+/// The JSON value that a text is.
+pub fn json(alloc: Global, line: &[u8]) -> Result<Value, LineFault>
     ensures ok { IfOk result (λ v. json_of line.now ≡ Some (view v)) }
     ensures bad { IsErrOf result LineFault.Bad → json_of line.now ≡ None }
 {

@@ -2,28 +2,34 @@
 ghost use Rattle.std.specs.Prelude.{◌≡◌, IfOk, IfSome, IsErrOf, Some, None, option_map, true};
 ghost use Rattle.serde_json.specs.Data.{member};
 ghost use Rattle.serde_json.specs.View.{view, members_view};
+ghost use Rattle.payload_records.specs.Name.{is_name};
+ghost use Rattle.payload_records.specs.Payload.{has_ascending_keys};
 ghost use Rattle.queue_rows.specs.Within.{is_enqueue_within};
 ghost use Rattle.script_text.specs.Line.{line_from};
-ghost use Rattle.script_text.specs.Plain.{visibility_member, visibility_given, plain_line, plain_enqueue, plain_asking};
+ghost use Rattle.script_text.specs.Plain.{visibility_member, visibility_given, plain_line, plain_ask, plain_enqueue, plain_asking};
 ghost use Rattle.script_text.specs.Readable.{IsReadableLine};
 
 use crate::fault::LineFault;
 use crate::line::Line;
 use crate::member::name_in;
 use crate::parts::visibility_in;
-use payload_records::{List, Payload, Shared};
+use payload_records::{List, Name, Payload, Shared};
 use queue_rows::{Enqueue, Statement, Visibility};
 use serde_json::Value;
 use std::alloc::Global;
 use std::collections::btree_map::Iter;
 
-// What such a line gives beside its verb.
+/// What such a line gives beside its verb.
 #[derive(Clone, Copy)]
-struct PlainMembers<'v> {
-    payload: &'v Value,
-    queue: &'v Value,
-    session: &'v Value,
-    visibility: Option<&'v Value>,
+pub struct PlainMembers<'v> {
+    /// The payload.
+    pub payload: &'v Value,
+    /// The queue.
+    pub queue: &'v Value,
+    /// The session that asks.
+    pub session: &'v Value,
+    /// The visibility, if it is given.
+    pub visibility: Option<&'v Value>,
 }
 
 // The value of the next member, where that is its key.
@@ -53,8 +59,8 @@ fn only_visibility(mut members: Iter<'_, String, Value>) -> Option<Option<&Value
     None
 }
 
-// Members stand in the order of their keys.
-fn plain_members(value: &Value) -> Option<PlainMembers<'_>>
+/// The members of such a line, which stand in the order of their keys. Of others nothing is told.
+pub fn plain_members(value: &Value) -> Option<PlainMembers<'_>>
     ensures { IfSome result (λ m. view value.now ≡ plain_line (view m.payload.now)
         (view m.queue.now) (view m.session.now) (option_map (λ v. view v.now) m.visibility)) }
 {
@@ -86,19 +92,14 @@ fn visibility_given(member: Option<&Value>) -> Result<Visibility, LineFault>
     }
 }
 
-#[tactic(auto, unfolding(crate::specs::Plain::plain_enqueue))]
-fn plain_enqueue(alloc: Global, members: PlainMembers<'_>) -> Result<Enqueue, LineFault>
-    ensures ok { IfOk result (λ ask. plain_enqueue
-        (view members.entry.payload.now) (view members.entry.queue.now)
-        (option_map (λ v. view v.now) members.entry.visibility) ≡ Some ask) }
-    ensures within { IfOk result (λ ask. is_enqueue_within ask ≡ true) }
-    ensures bad { IsErrOf result LineFault.Bad → plain_enqueue (view members.entry.payload.now)
-        (view members.entry.queue.now) (option_map (λ v. view v.now) members.entry.visibility) ≡ None }
+/// An enqueue of which nothing else is said.
+pub fn plain_ask(alloc: Global, queue: Name, payload: Payload, visibility: Visibility) -> Enqueue
+    requires named { is_name queue ≡ true }
+    requires in_order { has_ascending_keys payload ≡ true }
+    ensures ask { result ≡ plain_ask queue payload visibility }
+    ensures within { is_enqueue_within result ≡ true }
 {
-    let visibility = visibility_given(members.visibility)?;
-    let queue = name_in(alloc, members.queue)?;
-    let payload = Payload::of(alloc, members.payload)?;
-    Ok(Enqueue {
+    Enqueue {
         queue,
         payload,
         visibility,
@@ -111,7 +112,22 @@ fn plain_enqueue(alloc: Global, members: PlainMembers<'_>) -> Result<Enqueue, Li
         before: None,
         top: false,
         props: List::new(alloc),
-    })
+    }
+}
+
+#[tactic(auto, unfolding(crate::specs::Plain::plain_enqueue))]
+fn plain_enqueue(alloc: Global, members: PlainMembers<'_>) -> Result<Enqueue, LineFault>
+    ensures ok { IfOk result (λ ask. plain_enqueue
+        (view members.entry.payload.now) (view members.entry.queue.now)
+        (option_map (λ v. view v.now) members.entry.visibility) ≡ Some ask) }
+    ensures within { IfOk result (λ ask. is_enqueue_within ask ≡ true) }
+    ensures bad { IsErrOf result LineFault.Bad → plain_enqueue (view members.entry.payload.now)
+        (view members.entry.queue.now) (option_map (λ v. view v.now) members.entry.visibility) ≡ None }
+{
+    let visibility = visibility_given(members.visibility)?;
+    let queue = name_in(alloc, members.queue)?;
+    let payload = Payload::of(alloc, members.payload)?;
+    Ok(plain_ask(alloc, queue, payload, visibility))
 }
 
 #[tactic(auto, unfolding(crate::specs::Plain::plain_asking, queue_rows::specs::Within::is_within))]

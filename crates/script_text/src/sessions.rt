@@ -183,6 +183,19 @@ impl Sessions {
         Ok(())
     }
 
+    // One more statement of the session of that name, which is looked for where it is not the guess.
+    fn ask_at(&mut self, guess: usize, session: &Name, statement: Shared<Statement>) -> Result<(), LineFault>
+        requires { IsReadable statement }
+        ensures ok { OnOk result (with_statement_of session.now statement self.old ≡ Some self.new) }
+        ensures bad { IsErrOf result LineFault.Bad
+            → with_statement_of session.now statement self.old ≡ None }
+    {
+        let Some(at) = self.place_for(guess, session) else {
+            return Err(LineFault::Bad);
+        };
+        Ok(self.put(at, statement)?)
+    }
+
     // The line says what it asks. It is kept where it may come again.
     fn ask(
         &mut self,
@@ -212,11 +225,8 @@ impl Sessions {
         ensures bad { IsErrOf result LineFault.Bad
             → with_statement_of earlier.now.session earlier.now.statement self.old ≡ None }
     {
-        let Some(at) = self.place_for(earlier.at, &earlier.session) else {
-            return Err(LineFault::Bad);
-        };
         let statement = earlier.statement.copied()?;
-        Ok(self.put(at, statement)?)
+        self.ask_at(earlier.at, &earlier.session, statement)
     }
 
     // A line that is not the same as one that is kept.
@@ -240,7 +250,7 @@ impl Sessions {
     }
 
     /// Takes one more line in, which is given without its line feed, beside lines that were read before. One that is the same
-    /// as an earlier one is not read again.
+    /// as an earlier one is not read again, and of an enqueue that is the same but for its payload only the payload is.
     pub fn add_line(
         &mut self,
         alloc: Global,
@@ -252,6 +262,11 @@ impl Sessions {
     {
         if let Some(same) = earlier.same(line) {
             return self.ask_again(same);
+        }
+        if let Some(near) = earlier.near(line) {
+            if let Some(statement) = near.statement(alloc, line)? {
+                return self.ask_at(near.at, &near.session, statement);
+            }
         }
         self.add_new(alloc, earlier, line)
     }
