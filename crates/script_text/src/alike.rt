@@ -159,7 +159,7 @@ fn frame_of(alloc: Global, line: &[u8]) -> Result<Option<Frame>, AllocError>
 }
 
 /// How many places there are for such lines.
-const PLACES: usize = 256;
+const PLACES: usize = 1024;
 
 /// How many lines a place takes at most, so that a script of which no two lines are alike is read as fast as if none were kept.
 const LINES: u8 = 4;

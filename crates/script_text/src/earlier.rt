@@ -123,7 +123,7 @@ const PLACES: usize = 4096;
 /// What mixes a sum. It is odd, so that sums that differ stay so, and its bits follow no pattern.
 const FACTOR: u64 = 0x9E37_79B9_7F4A_7C15;
 
-/// A sum of bytes, the same for the same ones. They are taken eight at a time.
+/// A sum of bytes of twelve bits, the same for the same ones. They are taken eight at a time.
 pub fn sum_of(bytes: &[u8]) -> u64 {
     let mut sum = bytes.len() as u64;
     let mut rest = bytes;
@@ -134,7 +134,7 @@ pub fn sum_of(bytes: &[u8]) -> u64 {
     for byte in rest {
         sum = sum.wrapping_mul(31).wrapping_add(u64::from(*byte));
     }
-    sum.wrapping_mul(FACTOR) >> 40
+    sum.wrapping_mul(FACTOR) >> 52
 }
 
 // Where a line is kept, if it is: lines that are the same have the same place.
