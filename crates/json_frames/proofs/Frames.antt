@@ -1,23 +1,23 @@
 -- From one object that stands in a frame to all.
-use Rattle.std.proofs.Common.{◌≡◌, ℕ, suc, ◌+◌, ◌≤◌, List, [], ◌∷◌, ◌++◌, Bool, true, false, cond, Option, Some, None, inl, inr, ⊎_elim, IsUtf8, refl, sym, ap, ◌∙◌, subst, arith, append_assoc, append-nil}
+use Rattle.std.proofs.Common.{◌≡◌, ℕ, ◌≤◌, List, [], ◌∷◌, ◌++◌, Bool, true, false, cond, Option, Some, None, inl, inr, IsUtf8, refl, sym, ap, ◌∙◌, arith, append_assoc, append-nil}
 use Rattle.std.specs.Prelude.{is_some, option_map, option_and_then}
 use Rattle.std.specs.Str.{is_utf8}
 use Rattle.std.proofs.lemmas.Bool.{and_parts, false≢true}
 use Rattle.std.proofs.lemmas.Str.{IsUtf8-append, IsUtf8-from_is_utf8, is_utf8-from_IsUtf8}
 use Rattle.json.specs.Token.{Token}
-use Rattle.json.specs.Lex.{Lexeme, token, colon, between, lex, Place, fresh, after_value, punctuate, tokens}
+use Rattle.json.specs.Lex.{Lexeme, token, colon, between, lex, fresh, after_value, punctuate, tokens}
 use Rattle.json.specs.Json as json
 use Rattle.json.specs.Json.{Json, value, if_last}
-use Rattle.json.specs.Tree.{json_tokens, depth, members_depth}
-use Rattle.json.proofs.Found.{Some_inj, not_found}
+use Rattle.json.specs.Tree.{json_tokens, depth}
+use Rattle.json.proofs.Found.{not_found}
 use Rattle.json.proofs.Nesting.{value-depth}
 use Rattle.json.proofs.Printed.Trees.{value-json_tokens}
 use Rattle.json.proofs.Unique.Spelling.{value-json_tokens_back}
 use Rattle.serde_json.specs.Data.{Data, object, Members, no_members}
 use Rattle.serde_json.specs.Read.{of_json, of_members, read}
-use Rattle.json_frames.specs.Frame.{is_open, is_front, is_flat, json_of, Slots, fill, IsFrame}
+use Rattle.json_frames.specs.Frame.{is_open, is_front, is_flat, json_of, fill, IsFrame}
 use Rattle.json_frames.proofs.Flat.{none_opens, no_lexeme_opens}
-use Rattle.json_frames.proofs.Holes.{never_bad, Holes, fill_json, opened, flat_depth, filled}
+use Rattle.json_frames.proofs.Holes.{never_bad, fill_json, opened, flat_depth, filled}
 use Rattle.json_frames.proofs.Lexing.{lex-joined, lex_front, lex_flat}
 use Rattle.json_frames.proofs.Punctuating.{front_tokens, inner_tokens}
 
@@ -91,22 +91,22 @@ flat inner d is e =
     let p = inner_tokens l.0 l.1.1 in
     let spelt : json_tokens r.tree ≡ Token.begin_object ∷ punctuate fresh (l.0 ++ token Token.end_object ∷ []) = sym r.spelt ∙ ap (punctuate fresh) l.1.0 ∙ opens_with _ in
     elim p.1.1 [
-    | inr faulty ↦ absurd (never_bad r.tree (Token.begin_object ∷ p.0) (spelt ∙ ap (λ ts. Token.begin_object ∷ ts) (faulty [])))
-    | inl goes ↦
-        let whole : json_tokens r.tree ≡ Token.begin_object ∷ (p.0 ++ Token.end_object ∷ []) =
-            spelt ∙ ap (λ ts. Token.begin_object ∷ ts) (goes [] ∙ ap (λ ts. p.0 ++ Token.end_object ∷ ts) nothing_more) in
-        let o = object_of r.tree _ whole in
-        let own : json_tokens (json.object o.0) ≡ Token.begin_object ∷ (p.0 ++ Token.end_object ∷ []) = ap json_tokens (sym o.1) ∙ whole in
-        record {
-          members = o.0;
-          meant = ap of_json (sym o.1) ∙ r.meant;
-          shallow = flat_depth p.0 o.0 p.1.0 own;
-          within = λ behind.
-              ap (λ ls. punctuate fresh (ls ++ behind)) l.1.0 ∙ opens_with _
-              ∙ ap (λ ls. Token.begin_object ∷ punctuate fresh ls) (append_assoc l.0 (token Token.end_object ∷ []) behind)
-              ∙ ap (λ ts. Token.begin_object ∷ ts) (goes behind ∙ sym (append_assoc p.0 (Token.end_object ∷ []) (punctuate after_value behind)))
-              ∙ ap (λ ts. ts ++ punctuate after_value behind) (sym own);
-        }
+      | inr faulty ↦ absurd (never_bad r.tree (Token.begin_object ∷ p.0) (spelt ∙ ap (λ ts. Token.begin_object ∷ ts) (faulty [])))
+      | inl goes ↦
+          let whole : json_tokens r.tree ≡ Token.begin_object ∷ (p.0 ++ Token.end_object ∷ []) =
+          spelt ∙ ap (λ ts. Token.begin_object ∷ ts) (goes [] ∙ ap (λ ts. p.0 ++ Token.end_object ∷ ts) nothing_more) in
+          let o = object_of r.tree _ whole in
+          let own : json_tokens (json.object o.0) ≡ Token.begin_object ∷ (p.0 ++ Token.end_object ∷ []) = ap json_tokens (sym o.1) ∙ whole in
+          record {
+            members = o.0;
+            meant = ap of_json (sym o.1) ∙ r.meant;
+            shallow = flat_depth p.0 o.0 p.1.0 own;
+            within = λ behind.
+                ap (λ ls. punctuate fresh (ls ++ behind)) l.1.0 ∙ opens_with _
+                ∙ ap (λ ls. Token.begin_object ∷ punctuate fresh ls) (append_assoc l.0 (token Token.end_object ∷ []) behind)
+                ∙ ap (λ ts. Token.begin_object ∷ ts) (goes behind ∙ sym (append_assoc p.0 (Token.end_object ∷ []) (punctuate after_value behind)))
+                ∙ ap (λ ts. ts ++ punctuate after_value behind) (sym own);
+          }
     ]
 
 empty_reads : read (123 ∷ 125 ∷ []) ≡ Some (object no_members)
@@ -156,23 +156,25 @@ module _ (front back : List ℕ) (is : is_front front ≡ true) (u : IsUtf8 fron
         let o = object_of r.tree _ spelt in
         let h = opened ts (punctuate after_value (lex between back)) o.0 sample.members plain (ap json_tokens (sym o.1) ∙ spelt) in
         let m = mapped (of_members (fill_json h.0 (json.object sample.members)) no_members) whole (ap (λ x. of_json (json.object x)) (sym h.1.0) ∙ ap of_json (sym o.1) ∙ r.meant) in
-        let s = filled h.0 (json.object sample.members) m.0 (object no_members) sample.meant m.1 in
-        (s.0, λ inner d flat_is said.
-            (let known = chosen (is_utf8 inner) (read inner) d said in
-            let f = flat inner d flat_is known.1 in
-            let tree = json.object (fill_json h.0 (json.object f.members)) in
-            let deep : depth tree ≤ 127 = omega (arith, r.nested, ap depth o.1, h.1.1.1 (json.object f.members) 126 (omega (arith, r.nested, ap depth o.1)) (omega (arith, f.shallow))) in
-            valued (front ++ (inner ++ back)) (object (fill s.0 d)) (IsUtf8-append front (inner ++ back) u (IsUtf8-append inner back (IsUtf8-from_is_utf8 inner known.0) v))
-            (reads_back (front ++ (inner ++ back)) tree (object (fill s.0 d)) (around inner d flat_is f ∙ sym (h.1.1.0 (json.object f.members))) deep
-            (ap (option_map object) (s.1.1 (json.object f.members) d f.meant)))))
+        let s = filled h.0 (json.object sample.members) m.0 (object no_members) sample.meant m.1 in (
+          s.0,
+          λ inner d flat_is said.
+              (let known = chosen (is_utf8 inner) (read inner) d said in
+              let f = flat inner d flat_is known.1 in
+              let tree = json.object (fill_json h.0 (json.object f.members)) in
+              let deep : depth tree ≤ 127 = omega (arith, r.nested, ap depth o.1, h.1.1.1 (json.object f.members) 126 (omega (arith, r.nested, ap depth o.1)) (omega (arith, f.shallow))) in
+              valued (front ++ (inner ++ back)) (object (fill s.0 d)) (IsUtf8-append front (inner ++ back) u (IsUtf8-append inner back (IsUtf8-from_is_utf8 inner known.0) v))
+              (reads_back (front ++ (inner ++ back)) tree (object (fill s.0 d)) (around inner d flat_is f ∙ sym (h.1.1.0 (json.object f.members))) deep
+              (ap (option_map object) (s.1.1 (json.object f.members) d f.meant)))),
+        )
 
   pub from_sample : is_some (read (front ++ ((123 ∷ 125 ∷ []) ++ back))) ≡ true → IsFrame front back
   from_sample e =
       let w = some_of (read (front ++ ((123 ∷ 125 ∷ []) ++ back))) e in
       let p = front_tokens lexed.0 lexed.1.1 in
       elim p.1.1 [
-      | inl goes ↦ framed p.0 goes p.1.0 w.0 w.1
-      | inr faulty ↦
-          let r = reads _ w.0 w.1 in
-          absurd (never_bad r.tree (Token.begin_object ∷ p.0) (sym r.spelt ∙ behind_front _ ∙ ap (λ l. Token.begin_object ∷ l) (faulty _)))
+        | inl goes ↦ framed p.0 goes p.1.0 w.0 w.1
+        | inr faulty ↦
+            let r = reads _ w.0 w.1 in
+            absurd (never_bad r.tree (Token.begin_object ∷ p.0) (sym r.spelt ∙ behind_front _ ∙ ap (λ l. Token.begin_object ∷ l) (faulty _)))
       ]

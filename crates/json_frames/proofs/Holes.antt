@@ -134,20 +134,30 @@ here : (k : List ℕ) (v : Json) (ms : json.Members) (t : Token) (behind : List 
 here k v ms t behind inner e =
     let key : Token.key k ≡ t = cc in
     let later : json_tokens v ++ members_tokens ms ≡ json_tokens (json.object inner) ++ behind = cc in
-    let parts = same_value v (json.object inner) (members_tokens ms) behind later in
-    (hole k None (all_given ms),
-      (ap₂ (json.member k) parts.0 (sym (fill_given ms (json.object inner))),
-        ((λ j. ap₂ (λ a b. a ∷ (json_tokens j ++ b)) key (ap members_tokens (fill_given ms j) ∙ parts.1)),
-          (λ j n all one. let same : members_depth (fill_json (all_given ms) j) ≡ members_depth ms = ap members_depth (fill_given ms j) in omega arith))))
+    let parts = same_value v (json.object inner) (members_tokens ms) behind later in (
+      hole k None (all_given ms),
+      (
+        ap₂ (json.member k) parts.0 (sym (fill_given ms (json.object inner))),
+        (
+          (λ j. ap₂ (λ a b. a ∷ (json_tokens j ++ b)) key (ap members_tokens (fill_given ms j) ∙ parts.1)),
+          (λ j n all one. let same : members_depth (fill_json (all_given ms) j) ≡ members_depth ms = ap members_depth (fill_given ms j) in omega arith),
+        ),
+      ),
+    )
 
 -- it stands behind this member
 later : (k : List ℕ) (v : Json) (ms : json.Members) (t u : Token) (more behind : List Token) (inner : json.Members)
     → Token.key k ≡ t → json_tokens v ≡ u ∷ [] → Stands more behind ms inner → Stands (t ∷ u ∷ more) behind (json.member k v ms) inner
-later k v ms t u more behind inner key one (holes, (whole, (tokens, shallow))) =
-    (hole k (Some v) holes,
-      (ap (json.member k v) whole,
-        ((λ j. ap₂ (λ a b. a ∷ (b ++ members_tokens (fill_json holes j))) key one ∙ ap (λ l. t ∷ u ∷ l) (tokens j)),
-          (λ j n all inside. let rest : members_depth (fill_json holes j) ≤ n = shallow j n (omega arith) inside in omega arith))))
+later k v ms t u more behind inner key one (holes, (whole, (tokens, shallow))) = (
+  hole k (Some v) holes,
+  (
+    ap (json.member k v) whole,
+    (
+      (λ j. ap₂ (λ a b. a ∷ (b ++ members_tokens (fill_json holes j))) key one ∙ ap (λ l. t ∷ u ∷ l) (tokens j)),
+      (λ j n all inside. let rest : members_depth (fill_json holes j) ≤ n = shallow j n (omega arith) inside in omega arith),
+    ),
+  ),
+)
 
 stands : (whole : json.Members) (ts behind : List Token) (inner : json.Members) → none_opens ts ≡ true
     → members_tokens whole ≡ ts ++ (json_tokens (json.object inner) ++ behind) → Stands ts behind whole inner
@@ -167,8 +177,8 @@ stands (json.member k v ms) (t ∷ u ∷ more) behind inner flat e =
 pub opened : (ts behind : List Token) (whole inner : json.Members) → none_opens ts ≡ true
     → json_tokens (json.object whole) ≡ Token.begin_object ∷ (ts ++ (json_tokens (json.object inner) ++ behind))
     → (holes : Holes) × ((whole ≡ fill_json holes (json.object inner))
-        × (((j : Json) → json_tokens (json.object (fill_json holes j)) ≡ Token.begin_object ∷ (ts ++ (json_tokens j ++ behind)))
-        × ((j : Json) (n : ℕ) → members_depth whole ≤ n → depth j ≤ n → members_depth (fill_json holes j) ≤ n)))
+    × (((j : Json) → json_tokens (json.object (fill_json holes j)) ≡ Token.begin_object ∷ (ts ++ (json_tokens j ++ behind)))
+    × ((j : Json) (n : ℕ) → members_depth whole ≤ n → depth j ≤ n → members_depth (fill_json holes j) ≤ n)))
 opened ts behind whole inner flat e =
     let inside : members_tokens whole ≡ ts ++ (json_tokens (json.object inner) ++ behind) = cc in
     let found = stands whole ts behind inner flat inside in
@@ -215,7 +225,7 @@ put_slot k o (slot l p rest) = match_ordering (slice_cmp nat_cmp k l) (slot k o 
 
 put_turn : (c : Ordering) (k l : List ℕ) (o p : Option Data) (rest more : Slots) (ms : Members) (d : Data) → ms ≡ fill more d
     → match_ordering c (member k (given o d) (member l (given p d) (fill rest d))) (member l (given o d) (fill rest d)) (member l (given p d) ms)
-      ≡ fill (match_ordering c (slot k o (slot l p rest)) (slot l o rest) (slot l p more)) d
+    ≡ fill (match_ordering c (slot k o (slot l p rest)) (slot l o rest) (slot l p more)) d
 put_turn Less k l o p rest more ms d e = sym (fill_slot k o (slot l p rest) d ∙ ap (member k (given o d)) (fill_slot l p rest d))
 put_turn Equal k l o p rest more ms d e = sym (fill_slot l o rest d)
 put_turn Greater k l o p rest more ms d e = ap (member l (given p d)) e ∙ sym (fill_slot l p more d)
@@ -254,5 +264,5 @@ filled_behind (hole k (Some v) rest) found j whole d is e =
 
 pub filled : (holes : Holes) (j : Json) (whole : Members) (d : Data) → of_json j ≡ Some d → of_members (fill_json holes j) no_members ≡ Some whole
     → (slots : Slots) × ((whole ≡ fill slots d)
-        × ((i : Json) (e : Data) → of_json i ≡ Some e → of_members (fill_json holes i) no_members ≡ Some (fill slots e)))
+    × ((i : Json) (e : Data) → of_json i ≡ Some e → of_members (fill_json holes i) no_members ≡ Some (fill slots e)))
 filled holes j whole d is e = filled_behind holes no_slots j whole d is e

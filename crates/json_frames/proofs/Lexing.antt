@@ -340,7 +340,7 @@ ended_by byte l read m (x ∷ y ∷ xs) plains h last =
       (
         lex_at m x (y ∷ xs) p.0 ∙ ap (λ ls. before ++ ls) more.1.0 ∙ sym (append_assoc before more.0 (l ∷ [])),
         list_all-append (λ k. not (lexeme_opens k)) before more.0
-        ∙ and_from _ _ (begun_opens_not m (x == 34) (is_operator x) (is_space x) x (y ∷ xs) (plain_parts x p.0)) more.1.1,
+            ∙ and_from _ _ (begun_opens_not m (x == 34) (is_operator x) (is_space x) x (y ∷ xs) (plain_parts x p.0)) more.1.1,
       ),
     )
 

@@ -9,7 +9,7 @@ use Rattle.json_frames.proofs.Flat.{opens, none_opens, no_lexeme_opens}
 abbrev pub Reaches : Lexeme → (List Lexeme → List Token) → Type 0
 Reaches x f = (ts : List Token)
     × ((none_opens ts ≡ true)
-        × (((q : Place) × ((rest : List Lexeme) → f rest ≡ ts ++ punctuate q (x ∷ rest))) ⊎ ((rest : List Lexeme) → f rest ≡ ts ++ bad ∷ [])))
+    × (((q : Place) × ((rest : List Lexeme) → f rest ≡ ts ++ punctuate q (x ∷ rest))) ⊎ ((rest : List Lexeme) → f rest ≡ ts ++ bad ∷ [])))
 
 stops : (x : Lexeme) → Reaches x (λ rest. bad ∷ [])
 stops x = ([], (refl, inr (λ rest. refl)))
@@ -57,8 +57,8 @@ place_of x [] p h = ([], (refl, inl (p, λ rest. refl)))
 place_of x (token t ∷ ls) p h =
     let parts = and_parts _ _ h in
     same x _ (λ rest. place_token p t (begins_colon (ls ++ x ∷ [])) (λ n. punctuate n (ls ++ x ∷ rest)))
-        (λ rest. ap (λ b. place_token p t b (λ n. punctuate n (ls ++ x ∷ rest))) (colon_first x ls rest))
-        (placed x (λ n rest. punctuate n (ls ++ x ∷ rest)) (λ q. place_of x ls q parts.1) p t (begins_colon (ls ++ x ∷ [])) (not-true _ parts.0))
+    (λ rest. ap (λ b. place_token p t b (λ n. punctuate n (ls ++ x ∷ rest))) (colon_first x ls rest))
+    (placed x (λ n rest. punctuate n (ls ++ x ∷ rest)) (λ q. place_of x ls q parts.1) p t (begins_colon (ls ++ x ∷ [])) (not-true _ parts.0))
 place_of x (comma ∷ ls) fresh h = stops x
 place_of x (comma ∷ ls) after_value h = place_of x ls after_comma h
 place_of x (comma ∷ ls) after_comma h = stops x
@@ -72,8 +72,8 @@ place_of x (colon ∷ ls) after_key h = place_of x ls fresh h
 pub front_tokens : (ls : List Lexeme) → no_lexeme_opens ls ≡ true
     → (ts : List Token)
     × ((none_opens ts ≡ true)
-        × (((rest : List Lexeme) → punctuate fresh (ls ++ colon ∷ rest) ≡ ts ++ punctuate fresh rest)
-            ⊎ ((rest : List Lexeme) → punctuate fresh (ls ++ colon ∷ rest) ≡ ts ++ bad ∷ [])))
+    × (((rest : List Lexeme) → punctuate fresh (ls ++ colon ∷ rest) ≡ ts ++ punctuate fresh rest)
+    ⊎ ((rest : List Lexeme) → punctuate fresh (ls ++ colon ∷ rest) ≡ ts ++ bad ∷ [])))
 unfolding punctuate
 front_tokens ls h = at_colon (λ rest. punctuate fresh (ls ++ colon ∷ rest)) (place_of colon ls fresh h)
   where
@@ -90,8 +90,8 @@ front_tokens ls h = at_colon (λ rest. punctuate fresh (ls ++ colon ∷ rest)) (
 pub inner_tokens : (ls : List Lexeme) → no_lexeme_opens ls ≡ true
     → (ts : List Token)
     × ((none_opens ts ≡ true)
-        × (((rest : List Lexeme) → punctuate fresh (ls ++ token end_object ∷ rest) ≡ ts ++ end_object ∷ punctuate after_value rest)
-            ⊎ ((rest : List Lexeme) → punctuate fresh (ls ++ token end_object ∷ rest) ≡ ts ++ bad ∷ [])))
+    × (((rest : List Lexeme) → punctuate fresh (ls ++ token end_object ∷ rest) ≡ ts ++ end_object ∷ punctuate after_value rest)
+    ⊎ ((rest : List Lexeme) → punctuate fresh (ls ++ token end_object ∷ rest) ≡ ts ++ bad ∷ [])))
 unfolding punctuate
 inner_tokens ls h = at_brace (λ rest. punctuate fresh (ls ++ token end_object ∷ rest)) (place_of (token end_object) ls fresh h)
   where

@@ -60,4 +60,4 @@ fill (slot key (Some has) rest) d = member key has (fill rest d)
 unfoldable pub IsFrame : List ℕ → List ℕ → Type 0
 IsFrame front back = (slots : Slots)
     × ((inner : List ℕ) (d : Data) → is_flat inner ≡ true → json_of inner ≡ Some d
-        → json_of (front ++ (inner ++ back)) ≡ Some (object (fill slots d)))
+    → json_of (front ++ (inner ++ back)) ≡ Some (object (fill slots d)))

@@ -178,10 +178,6 @@ impl Frame {
         ensures none { IfNone result ((inner : List ℕ) → text.now ≡ self.now.0 ++ (inner ++ self.now.1) → is_flat inner ≡ false) }
     {
         let inner = between(&self.front, text, &self.back)?;
-        if is_flat(inner) {
-            Some(inner)
-        } else {
-            None
-        }
+        if is_flat(inner) { Some(inner) } else { None }
     }
 }

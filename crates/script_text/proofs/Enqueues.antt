@@ -115,12 +115,12 @@ same_but_payload slots p q s d v f object_there queue session visibility empty s
     let e = taken c.more d (codes "s") s _ c.rest in
     let verb = fixed a.holds d (string (codes "enqueue")) a.here object_there refl in
     let two : slots ≡ slot (codes "do") (Some (string (codes "enqueue"))) (slot (codes "payload") b.holds b.more) =
-        a.is ∙ ap (λ h. slot (codes "do") h a.more) verb ∙ ap (λ m. slot (codes "do") (Some (string (codes "enqueue"))) m) b.is in
+    a.is ∙ ap (λ h. slot (codes "do") h a.more) verb ∙ ap (λ m. slot (codes "do") (Some (string (codes "enqueue"))) m) b.is in
     let without = left_open b.holds d p b.here some (sym (in_payload b.holds b.more) ∙ ap (λ m. option_map is_empty_object (get (codes "payload") (object (fill m (object no_members))))) (sym two) ∙ empty) in
     let whole : slots ≡ slot (codes "do") (Some (string (codes "enqueue"))) (slot (codes "payload") None (slot (codes "queue") (Some q) (slot (codes "s") (Some s) e.more))) =
-        two ∙ ap (λ h. slot (codes "do") (Some (string (codes "enqueue"))) (slot (codes "payload") h b.more)) without
-        ∙ ap (λ m. slot (codes "do") (Some (string (codes "enqueue"))) (slot (codes "payload") None m)) (c.is ∙ ap (λ h. slot (codes "queue") h c.more) (fixed c.holds d q c.here object_there queue)
-        ∙ ap (λ m. slot (codes "queue") (Some q) m) (e.is ∙ ap (λ h. slot (codes "s") h e.more) (fixed e.holds d s e.here object_there session))) in
+    two ∙ ap (λ h. slot (codes "do") (Some (string (codes "enqueue"))) (slot (codes "payload") h b.more)) without
+    ∙ ap (λ m. slot (codes "do") (Some (string (codes "enqueue"))) (slot (codes "payload") None m)) (c.is ∙ ap (λ h. slot (codes "queue") h c.more) (fixed c.holds d q c.here object_there queue)
+    ∙ ap (λ m. slot (codes "queue") (Some q) m) (e.is ∙ ap (λ h. slot (codes "s") h e.more) (fixed e.holds d s e.here object_there session))) in
     ap (λ m. object (fill m other)) whole
     ∙ ap (λ m. object (member (codes "do") (string (codes "enqueue")) (member (codes "payload") other (member (codes "queue") q (member (codes "s") s m))))) (only_visibility e.more d v object_there visibility e.rest other)
   where
@@ -264,9 +264,9 @@ alike_from front back line inner session ask frame is flat read_there empty plai
     same : (d : Data) → object (fill frame.0 d) ≡ plain_line d plain.queue plain.session plain.visibility
     same =
         let read_again : Some (object (fill frame.0 first.0)) ≡ Some (plain_line plain.payload plain.queue plain.session plain.visibility) =
-            sym (frame.1 inner first.0 flat first.1.0) ∙ ap json_of (sym is) ∙ plain.said in
+        sym (frame.1 inner first.0 flat first.1.0) ∙ ap json_of (sym is) ∙ plain.said in
         let hole : option_map is_empty_object (get (codes "payload") (object (fill frame.0 (object no_members)))) ≡ Some true =
-            ap (λ o. option_map is_empty_object (option_and_then (get (codes "payload")) o)) (sym (frame.1 (123 ∷ 125 ∷ []) (object no_members) refl empty_said)) ∙ empty in
+        ap (λ o. option_map is_empty_object (option_and_then (get (codes "payload")) o)) (sym (frame.1 (123 ∷ 125 ∷ []) (object no_members) refl empty_said)) ∙ empty in
         same_but_payload frame.0 plain.payload plain.queue plain.session first.0 plain.visibility (ap (or_else null) read_again) first.1.1
         (name_is_no_object plain.queue ask.queue parts.queue) (name_is_no_object plain.session session parts.session)
         (visibility_is_no_object plain.visibility ask.visibility parts.visibility) hole plain.some

@@ -7,7 +7,7 @@ ghost use Rattle.queue_rows.specs.declared.statement.Enqueue.{Enqueue as Ask};
 ghost use Rattle.queue_rows.specs.declared.statement.Statement.TheVariants as statements;
 ghost use Rattle.serde_json.specs.Find.{get, as_object};
 ghost use Rattle.serde_json.specs.View.{view};
-ghost use Rattle.script_text.specs.Alike.{is_empty_object, IsPlainLine, IsAlike};
+ghost use Rattle.script_text.specs.Alike.{is_empty_object, IsPlainLine, IsAlike, IsEarlierEnqueue};
 ghost use Rattle.script_text.specs.Line.{line_of};
 ghost use Rattle.script_text.specs.Readable.{IsReadable};
 ghost use Rattle.script_text.specs.declared.line.Line.TheVariants.{Asked};
@@ -72,9 +72,12 @@ fn payload_in(alloc: Global, text: &[u8]) -> Result<Option<Payload>, AllocError>
 impl EarlierEnqueue {
     /// What a line asks that is the same but for the payload. Of others nothing is told.
     #[tactic(auto, unfolding(crate::specs::Alike::IsAlike, queue_rows::specs::Within::is_within, history_laws::specs::Ordered::is_ordered))]
-    pub fn statement(&self, alloc: Global, line: &[u8]) -> Result<Option<Shared<Statement>>, AllocError>
-        requires alike { IsAlike self.now.frame.0 self.now.frame.1 self.now.session self.now.queue self.now.visibility }
-        requires named { is_name self.now.queue ≡ true }
+    pub fn statement(
+        &self,
+        alloc: Global,
+        line: &[u8],
+    ) -> Result<Option<Shared<Statement>>, AllocError>
+        requires { IsEarlierEnqueue self.now }
         ensures said { IfOk result (λ o. IfSome o (λ s. line_of line.now ≡ Some (Asked self.now.session s))) }
         ensures readable { IfOk result (λ o. IfSome o IsReadable) }
     {
@@ -172,23 +175,20 @@ struct Place {
 }
 
 impl Model for Place {
-    ghost use Rattle.std.specs.Prelude.{◌≡◌, Option, IfSome, true};
-    ghost use Rattle.payload_records.specs.Name.{is_name};
-    ghost use Rattle.script_text.specs.Alike.{IsAlike};
+    ghost use Rattle.std.specs.Prelude.{Option, IfSome};
+    ghost use Rattle.script_text.specs.Alike.{IsEarlierEnqueue};
     ghost use Rattle.script_text.specs.declared.alike.EarlierEnqueue.{EarlierEnqueue};
 
     ghost Value = { Option EarlierEnqueue };
 
     ghost view = { λ p. p.kept };
 
-    ghost invariant = { λ p. IfSome p.kept (λ e.
-        IsAlike e.frame.0 e.frame.1 e.session e.queue e.visibility × (is_name e.queue ≡ true)) };
+    ghost invariant = { λ p. IfSome p.kept IsEarlierEnqueue };
 }
 
 impl Place {
     fn kept(&self) -> Option<&EarlierEnqueue>
-        ensures { IfSome result (λ e. IsAlike e.now.frame.0 e.now.frame.1 e.now.session e.now.queue e.now.visibility
-            × (is_name e.now.queue ≡ true)) }
+        ensures { IfSome result (λ e. IsEarlierEnqueue e.now) }
     {
         self.kept.as_ref()
     }
@@ -208,8 +208,7 @@ impl Place {
         if self.left == 0 {
             return Ok(());
         }
-        let left = self.left - 1;
-        self.left = left;
+        self.left -= 1;
         let Some(frame) = frame_of(alloc, line)? else {
             return Ok(());
         };
@@ -257,8 +256,7 @@ impl EarlierEnqueues {
 
     /// An enqueue of which a line may be the same but for the payload, if one is kept.
     pub fn near(&self, line: &[u8]) -> Option<&EarlierEnqueue>
-        ensures { IfSome result (λ e. IsAlike e.now.frame.0 e.now.frame.1 e.now.session e.now.queue e.now.visibility
-            × (is_name e.now.queue ≡ true)) }
+        ensures { IfSome result (λ e. IsEarlierEnqueue e.now) }
     {
         self.places.get(place_of(line)?)?.kept()
     }

@@ -1,7 +1,6 @@
 // Lines that were read, for lines that are the same.
-ghost use Rattle.std.specs.Prelude.{◌≡◌, IfSome, Some, true};
-ghost use Rattle.payload_records.specs.Name.{is_name};
-ghost use Rattle.script_text.specs.Alike.{IsAlike};
+ghost use Rattle.std.specs.Prelude.{◌≡◌, IfSome, Some};
+ghost use Rattle.script_text.specs.Alike.{IsEarlierEnqueue};
 ghost use Rattle.script_text.specs.Line.{line_of};
 ghost use Rattle.script_text.specs.Readable.{IsReadable};
 ghost use Rattle.script_text.specs.declared.line.Line.TheVariants.{Asked};
@@ -175,8 +174,7 @@ impl EarlierLines {
 
     /// An enqueue of which a line may be the same but for the payload, if one is kept.
     pub fn near(&self, line: &[u8]) -> Option<&EarlierEnqueue>
-        ensures { IfSome result (λ e. IsAlike e.now.frame.0 e.now.frame.1 e.now.session e.now.queue e.now.visibility
-            × (is_name e.now.queue ≡ true)) }
+        ensures { IfSome result (λ e. IsEarlierEnqueue e.now) }
     {
         self.enqueues.near(line)
     }

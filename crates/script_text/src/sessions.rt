@@ -184,7 +184,12 @@ impl Sessions {
     }
 
     // One more statement of the session of that name, which is looked for where it is not the guess.
-    fn ask_at(&mut self, guess: usize, session: &Name, statement: Shared<Statement>) -> Result<(), LineFault>
+    fn ask_at(
+        &mut self,
+        guess: usize,
+        session: &Name,
+        statement: Shared<Statement>,
+    ) -> Result<(), LineFault>
         requires { IsReadable statement }
         ensures ok { OnOk result (with_statement_of session.now statement self.old ≡ Some self.new) }
         ensures bad { IsErrOf result LineFault.Bad
@@ -260,13 +265,13 @@ impl Sessions {
         ensures ok { OnOk result (with_bytes self.old line.now ≡ Some self.new) }
         ensures bad { IsErrOf result LineFault.Bad → with_bytes self.old line.now ≡ None }
     {
-        if let Some(same) = earlier.same(line) {
-            return self.ask_again(same);
-        }
         if let Some(near) = earlier.near(line) {
             if let Some(statement) = near.statement(alloc, line)? {
                 return self.ask_at(near.at, &near.session, statement);
             }
+        }
+        if let Some(same) = earlier.same(line) {
+            return self.ask_again(same);
         }
         self.add_new(alloc, earlier, line)
     }

@@ -1,4 +1,4 @@
-use Rattle.std.proofs.Common.{◌≡◌, ◌++◌, ◌+◌, ◌≤◌, List, ℕ, length, arith}
+use Rattle.std.proofs.Common.{◌≡◌, length, arith}
 use Rattle.json_frames.proofs.frame.between.Goals as goal
 use Rattle.json_frames.proofs.Inner.{front_is, back_is, unlike}
 

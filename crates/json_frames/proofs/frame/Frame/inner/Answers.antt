@@ -1,5 +1,4 @@
-use Rattle.std.proofs.Common.{◌≡◌, ◌++◌, List, ℕ, false, ap, ap₂, sym, ◌∙◌}
-use Rattle.json_frames.specs.Frame.{is_flat}
+use Rattle.std.proofs.Common.{◌++◌, ap, ap₂, sym, ◌∙◌}
 use Rattle.json_frames.proofs.frame.Frame.inner.Goals as goal
 use Rattle.json_frames.proofs.Inner.{one_part}
 
