@@ -1,5 +1,5 @@
 -- From a line that enqueues to all that are the same but for the payload.
-use Rattle.std.proofs.Common.{◌≡◌, ℕ, zero, suc, ◌≤◌, List, [], ◌∷◌, ◌++◌, length, Bool, true, false, cond, ◌&&◌, ◌==◌, Option, Some, None, refl, sym, ap, ◌∙◌, subst, arith}
+use Rattle.std.proofs.Common.{◌≡◌, ℕ, zero, suc, ◌≤◌, List, [], ◌∷◌, ◌++◌, length, Bool, true, false, cond, ◌&&◌, ◌==◌, Option, Some, None, refl, sym, ap, ◌∙◌, arith}
 use Rattle.std.proofs.lemmas.Bool.{false≢true, true≢false, eqb-true, and_parts, le-leb}
 use Rattle.std.specs.Prelude.{String, IsTrue, ◌↔◌, codes, is_some, option_map, option_and_then, nat_le}
 use Rattle.std.specs.List.{list_all}
@@ -12,10 +12,9 @@ use Rattle.payload_records.specs.Payload.{payload_of}
 use Rattle.payload_records.specs.declared.payload.Payload.{Payload}
 use Rattle.queue_rows.specs.declared.statement.Enqueue.{Enqueue}
 use Rattle.queue_rows.specs.declared.statement.Visibility.{Visibility}
-use Rattle.queue_rows.specs.declared.statement.Statement.{Statement}
 use Rattle.queue_rows.specs.declared.statement.Statement.TheVariants as statements
 use Rattle.serde_json.specs.Data.{Data, null, boolean, number, string, array, object, Members, no_members, member}
-use Rattle.serde_json.specs.Find.{get, get_member, as_object}
+use Rattle.serde_json.specs.Find.{get, as_object}
 use Rattle.serde_json.specs.Read.{read}
 use Rattle.serde_json.specs.View.{members_view}
 use Rattle.serde_json.proofs.OnLiterals.{serde_json_on_literals}

@@ -1,4 +1,4 @@
-use Rattle.std.proofs.Common.{◌≡◌, false, ap, ◌∙◌, option_map}
+use Rattle.std.proofs.Common.{false, ap, ◌∙◌, option_map}
 use Rattle.std.specs.Prelude.{unwrap_or}
 use Rattle.script_text.specs.Alike.{has_none}
 use Rattle.script_text.proofs.alike.is_empty_object.Goals as goal
