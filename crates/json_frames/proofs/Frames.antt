@@ -15,7 +15,7 @@ use Rattle.json.proofs.Printed.Trees.{value-json_tokens}
 use Rattle.json.proofs.Unique.Spelling.{value-json_tokens_back}
 use Rattle.serde_json.specs.Data.{Data, object, Members, no_members}
 use Rattle.serde_json.specs.Read.{of_json, of_members, read}
-use Rattle.json_frames.specs.Frame.{is_open, is_front, is_flat, json_of, fill, IsFrame}
+use Rattle.json_frames.specs.Frame.{is_open, is_front, is_flat, json_of, is_around, fill, IsFrame}
 use Rattle.json_frames.proofs.Flat.{none_opens, no_lexeme_opens}
 use Rattle.json_frames.proofs.Holes.{never_bad, fill_json, opened, flat_depth, filled}
 use Rattle.json_frames.proofs.Lexing.{lex-joined, lex_front, lex_flat}
@@ -178,3 +178,17 @@ module _ (front back : List ℕ) (is : is_front front ≡ true) (u : IsUtf8 fron
             let r = reads _ w.0 w.1 in
             absurd (never_bad r.tree (Token.begin_object ∷ p.0) (sym r.spelt ∙ behind_front _ ∙ ap (λ l. Token.begin_object ∷ l) (faulty _)))
       ]
+
+read_of : (text : List ℕ) → is_some (json_of text) ≡ true → is_some (read text) ≡ true
+read_of text e = by (is_utf8 text) e
+  where
+    by : (b : Bool) → is_some (cond b (read text) None) ≡ true → is_some (read text) ≡ true
+    by true s = s
+    by false s = absurd (false≢true s)
+
+pub from_around : (front back : List ℕ) → is_around front back ≡ true → IsFrame front back
+from_around front back is =
+    let whole = and_parts _ _ is in
+    let both = and_parts _ _ whole.0 in
+    let one = and_parts _ _ both.0 in
+    from_sample front back one.0 (IsUtf8-from_is_utf8 front one.1) (IsUtf8-from_is_utf8 back both.1) (read_of _ whole.1)

@@ -5,3 +5,5 @@ pub mod Inner
 pub mod Punctuating
 pub mod Holes
 pub mod Lexing
+pub mod Positions
+pub mod Texts

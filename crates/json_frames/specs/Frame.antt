@@ -1,5 +1,5 @@
 -- JSON texts that are the same but for one object that stands in them.
-use Rattle.std.specs.Prelude.{◌≡◌, ◌&&◌, ◌||◌, ◌==◌, ◌++◌, ℕ, List, [], ◌∷◌, fold, Bool, true, false, not, if◌then◌else◌, Option, Some, None}
+use Rattle.std.specs.Prelude.{◌≡◌, ◌&&◌, ◌||◌, ◌==◌, ◌++◌, ◌+◌, ℕ, List, [], ◌∷◌, fold, take, drop, position, is_some, option_map, option_and_then, Bool, true, false, not, if◌then◌else◌, Option, Some, None}
 use Rattle.std.specs.List.{list_all}
 use Rattle.std.specs.Str.{is_utf8}
 use Rattle.json.specs.Word.{is_operator, is_space}
@@ -55,6 +55,22 @@ abbrev pub fill : Slots → Data → Members
 fill no_slots d = no_members
 fill (slot key None rest) d = member key d (fill rest d)
 fill (slot key (Some has) rest) d = member key has (fill rest d)
+
+-- where the first object within a text opens that opens an object itself: what stands before it, and what behind the first brace that closes one
+abbrev pub cut_around : List ℕ → Option (List ℕ × List ℕ)
+cut_around [] = None
+cut_around (first ∷ text) =
+    option_and_then
+    (λ at. option_map (λ close. (first ∷ take at text, drop (close + 1) (drop at text))) (position (λ byte. byte == 125) (drop at text)))
+    (position (λ byte. byte == 123) text)
+
+-- any object may stand between the two: `{}` can
+abbrev pub is_around : List ℕ → List ℕ → Bool
+is_around front back = is_front front && is_utf8 front && is_utf8 back && is_some (json_of (front ++ ((123 ∷ 125 ∷ []) ++ back)))
+
+-- the frame of a text
+abbrev pub frame_of : List ℕ → Option (List ℕ × List ℕ)
+frame_of text = option_and_then (λ cut. if is_around cut.0 cut.1 then Some cut else None) (cut_around text)
 
 -- whichever object stands between the two texts, the whole is one object that is the same but for it
 unfoldable pub IsFrame : List ℕ → List ℕ → Type 0

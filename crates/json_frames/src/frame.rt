@@ -1,9 +1,8 @@
 // An object's text but for an object within it.
-ghost use Rattle.std.specs.Prelude.{◌≡◌, ◌++◌, ◌∷◌, [], List, ℕ, IfOk, IfSome, IfNone, is_some, true, false};
+ghost use Rattle.std.specs.Prelude.{◌≡◌, ◌<◌, ◌==◌, ◌++◌, ◌∷◌, [], List, ℕ, length, position, option_map, IfOk, IfSome, IfNone, is_some, true, false};
 ghost use Rattle.std.specs.List.{list_all};
-ghost use Rattle.std.specs.Str.{IsUtf8};
-ghost use Rattle.serde_json.specs.Read.{read};
-ghost use Rattle.json_frames.specs.Frame.{is_plain, is_open, ends_at, is_front, is_flat, IsFrame};
+ghost use Rattle.std.specs.Str.{is_utf8};
+ghost use Rattle.json_frames.specs.Frame.{is_plain, is_open, ends_at, is_front, is_flat, json_of, cut_around, is_around, frame_of, IsFrame};
 
 use crate::mode::is_closed;
 use memchr::memchr;
@@ -72,12 +71,33 @@ impl Model for Frame {
     ghost invariant = { λ f. IsFrame f.front.items f.back.items };
 }
 
-// Before and behind the first object in a text that is an object.
-fn cut(text: &[u8]) -> Option<(&[u8], &[u8])> {
+#[tactic(auto, using(crate::proofs::Positions::first_is_position))]
+fn first_open(text: &[u8]) -> Option<usize>
+    ensures at { result ≡ position (λ byte. byte == 123) text.now }
+    ensures within { IfSome result (λ at. at < length text.now) }
+{
+    memchr(b'{', text)
+}
+
+#[tactic(auto, using(crate::proofs::Positions::first_is_position))]
+fn first_close(text: &[u8]) -> Option<usize>
+    ensures at { result ≡ position (λ byte. byte == 125) text.now }
+    ensures within { IfSome result (λ at. at < length text.now) }
+{
+    memchr(b'}', text)
+}
+
+// Before and behind the first object in a text that opens an object.
+fn cut(text: &[u8]) -> Option<(&[u8], &[u8])>
+    ensures { option_map (λ parts. (parts.0.now, parts.1.now)) result ≡ cut_around text.now }
+{
     let (_first, behind) = text.split_first()?;
-    let open = memchr(b'{', behind)? + 1;
-    let close = memchr(b'}', &text[open..])? + open;
-    Some((&text[..open], &text[close + 1..]))
+    let open = first_open(behind)?;
+    let (_before, inner) = behind.split_at(open);
+    let close = first_close(inner)?;
+    let (front, _rest) = text.split_at(open + 1);
+    let (_inner, back) = inner.split_at(close + 1);
+    Some((front, back))
 }
 
 // What stands between the two in a text that begins with the one and ends with the other.
@@ -111,8 +131,9 @@ fn joined(alloc: Global, front: &[u8], inner: &[u8], back: &[u8]) -> Result<Vec<
 }
 
 // Whether the whole is JSON where an object without members stands between the two.
+#[tactic(auto, using(crate::proofs::Texts::json_read, crate::proofs::Texts::json_unread))]
 fn is_json_around(alloc: Global, front: &[u8], back: &[u8]) -> Result<bool, AllocError>
-    ensures { IfOk result (λ is. is ≡ true → is_some (read (front.now ++ ((123 ∷ 125 ∷ []) ++ back.now))) ≡ true) }
+    ensures { IfOk result (λ is. is ≡ is_some (json_of (front.now ++ ((123 ∷ 125 ∷ []) ++ back.now)))) }
 {
     let text = joined(alloc, front, b"{}", back)?;
     match Value::from_slice(alloc, &text) {
@@ -122,10 +143,24 @@ fn is_json_around(alloc: Global, front: &[u8], back: &[u8]) -> Result<bool, Allo
     }
 }
 
+#[tactic(auto, using(crate::proofs::Texts::text_is_utf8, crate::proofs::Texts::other_is_not))]
 fn is_text(bytes: &[u8]) -> bool
-    ensures { result ≡ true → IsUtf8 bytes.now }
+    ensures { result ≡ is_utf8 bytes.now }
 {
-    std::str::from_utf8(bytes).is_ok()
+    match std::str::from_utf8(bytes) {
+        Ok(_text) => true,
+        Err(_fault) => false,
+    }
+}
+
+fn is_around(alloc: Global, front: &[u8], back: &[u8]) -> Result<bool, AllocError>
+    ensures { IfOk result (λ is. is ≡ is_around front.now back.now) }
+{
+    if is_front(front) && is_text(front) && is_text(back) {
+        is_json_around(alloc, front, back)
+    } else {
+        Ok(false)
+    }
 }
 
 fn copied(alloc: Global, bytes: &[u8]) -> Result<Vec<u8>, AllocError>
@@ -148,17 +183,15 @@ fn framed(alloc: Global, front: &[u8], back: &[u8]) -> Result<Frame, AllocError>
 impl Frame {
     /// The text around the first object within a text, where it is known that any flat object may stand there: the text is a JSON
     /// object, and before that one it has no list, no other object and no escape.
-    #[tactic(auto, using(crate::proofs::Frames::from_sample))]
+    #[tactic(auto, using(crate::proofs::Frames::from_around))]
     pub fn around(alloc: Global, text: &[u8]) -> Result<Option<Frame>, AllocError>
-        ensures { IfOk result (λ found. IfSome found (λ frame. IsFrame frame.0 frame.1)) }
+        ensures found { IfOk result (λ found. found ≡ frame_of text.now) }
+        ensures frame { IfOk result (λ found. IfSome found (λ frame. IsFrame frame.0 frame.1)) }
     {
         let Some((front, back)) = cut(text) else {
             return Ok(None);
         };
-        if !is_front(front) || !is_text(front) || !is_text(back) {
-            return Ok(None);
-        }
-        if !is_json_around(alloc, front, back)? {
+        if !is_around(alloc, front, back)? {
             return Ok(None);
         }
         Ok(Some(framed(alloc, front, back)?))
