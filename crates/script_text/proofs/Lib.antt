@@ -1,12 +1,10 @@
 pub mod Cuts
 pub mod Enqueues
-pub mod Feeds
 pub mod Front
 pub mod Growth
 pub mod Ids
 pub mod Items
 pub mod Limits
-pub mod Lines
 pub mod Plain
 pub mod Steps
 pub mod Tests

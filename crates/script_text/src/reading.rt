@@ -17,7 +17,7 @@ use std::alloc::Global;
 /// The bytes of the shortest line that asks a statement, as {"s":"a","do":"commit"}, with its line feed.
 const SHORTEST_LINE: usize = 24;
 
-#[tactic(auto, using(crate::proofs::Feeds::first_is_position))]
+#[tactic(auto, using(json_frames::proofs::Positions::first_is_position))]
 fn line_end(text: &[u8]) -> Option<usize>
     ensures end { result ≡ position is_line_feed text.now }
     ensures within { IfSome result (λ at. at < length text.now) }

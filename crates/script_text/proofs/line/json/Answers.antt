@@ -1,5 +1,5 @@
 use Rattle.serde_json.specs.View.{view}
-use Rattle.script_text.proofs.Lines.{json_read, json_unread}
+use Rattle.json_frames.proofs.Texts.{json_read, json_unread}
 use Rattle.script_text.proofs.line.json.Goals as goal
 
 pub returns-in-Ok-clause-ok : goal.returns-in-Ok-clause-ok
