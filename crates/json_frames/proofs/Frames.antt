@@ -1,8 +1,9 @@
 -- From one object that stands in a frame to all.
-use Rattle.std.proofs.Common.{◌≡◌, ℕ, ◌≤◌, List, [], ◌∷◌, ◌++◌, Bool, true, false, cond, Option, Some, None, inl, inr, IsUtf8, refl, sym, ap, ◌∙◌, arith, append_assoc, append-nil}
-use Rattle.std.specs.Prelude.{is_some, option_map, option_and_then}
+use Rattle.std.proofs.Common.{◌≡◌, ℕ, ◌≤◌, List, [], ◌∷◌, ◌++◌, Bool, true, false, cond, ◌&&◌, ◌==◌, Option, Some, None, inl, inr, IsUtf8, refl, sym, ap, ◌∙◌, arith, append_assoc}
+use Rattle.std.specs.Prelude.{fold, is_some, option_map}
+use Rattle.std.specs.List.{list_all}
 use Rattle.std.specs.Str.{is_utf8}
-use Rattle.std.proofs.lemmas.Bool.{and_parts, false≢true}
+use Rattle.std.proofs.lemmas.Bool.{and_parts, and_from, eqb-true, false≢true}
 use Rattle.std.proofs.lemmas.Str.{IsUtf8-append, IsUtf8-from_is_utf8, is_utf8-from_IsUtf8}
 use Rattle.json.specs.Token.{Token}
 use Rattle.json.specs.Lex.{Lexeme, token, colon, between, lex, fresh, after_value, punctuate, tokens}
@@ -10,43 +11,19 @@ use Rattle.json.specs.Json as json
 use Rattle.json.specs.Json.{Json, value, if_last}
 use Rattle.json.specs.Tree.{json_tokens, depth}
 use Rattle.json.proofs.Found.{not_found}
-use Rattle.json.proofs.Nesting.{value-depth}
-use Rattle.json.proofs.Printed.Trees.{value-json_tokens}
-use Rattle.json.proofs.Unique.Spelling.{value-json_tokens_back}
 use Rattle.serde_json.specs.Data.{Data, object, Members, no_members}
 use Rattle.serde_json.specs.Read.{of_json, of_members, read}
-use Rattle.json_frames.specs.Frame.{is_open, is_front, is_flat, json_of, is_around, fill, IsFrame}
+use Rattle.json_frames.specs.Frame.{step, is_between, is_plain, opens_plain, is_open, ends_at, is_front, is_flat, json_of, is_around, fill, IsFrame}
+use Rattle.json_frames.specs.declared.mode.Mode.{Mode}
+use Rattle.json_frames.specs.declared.mode.Mode.TheVariants.{Between, InWord, InString}
 use Rattle.json_frames.proofs.Flat.{none_opens, no_lexeme_opens}
 use Rattle.json_frames.proofs.Holes.{never_bad, fill_json, opened, flat_depth, filled}
 use Rattle.json_frames.proofs.Lexing.{lex-joined, lex_front, lex_flat}
 use Rattle.json_frames.proofs.Punctuating.{front_tokens, inner_tokens}
+use Rattle.json_frames.proofs.Reading.{reads, reads_back, opens_with}
+use Rattle.json_frames.proofs.Unclosed.{never_unclosed, not_in_word}
 
--- ---- what was read
-
-pub record Reads (text : List ℕ) (d : Data) : Type 0 where
-  pub tree : Json
-  pub spelt : tokens text ≡ json_tokens tree
-  pub meant : of_json tree ≡ Some d
-  pub nested : depth tree ≤ 127
-
-parsed : (text : List ℕ) (d : Data) (o : Option (Json × List Token)) → value 127 (tokens text) ≡ o → option_and_then of_json (option_and_then (λ p. if_last p.0 p.1) o) ≡ Some d → Reads text d
-parsed text d None v e = not_found d e
-parsed text d (Some (j, [])) v e = record { tree = j; spelt = value-json_tokens_back 127 (tokens text) [] j v ∙ append-nil (json_tokens j); meant = e; nested = value-depth 127 (tokens text) [] j v }
-parsed text d (Some (j, (t ∷ ts))) v e = not_found d e
-
-reads : (text : List ℕ) (d : Data) → read text ≡ Some d → Reads text d
-reads text d e = parsed text d (value 127 (tokens text)) refl e
-
-reads_back : (text : List ℕ) (j : Json) (d : Data) → tokens text ≡ json_tokens j → depth j ≤ 127 → of_json j ≡ Some d → read text ≡ Some d
-reads_back text j d spelt nested meant =
-    let back : value 127 (tokens text) ≡ Some (j, []) = ap (value 127) (spelt ∙ sym (append-nil (json_tokens j))) ∙ value-json_tokens j 127 [] nested in
-    ap (λ o. option_and_then of_json (option_and_then (λ p. if_last p.0 p.1) o)) back ∙ meant
-
--- the front and the last lexeme of what begins an object
-opens_with : (ls : List Lexeme) → punctuate fresh (token Token.begin_object ∷ ls) ≡ Token.begin_object ∷ punctuate fresh ls
-unfolding punctuate
-opens_with ls = refl
-
+-- the last lexeme of an object
 nothing_more : punctuate after_value [] ≡ []
 unfolding punctuate
 nothing_more = refl
@@ -79,15 +56,35 @@ object_of (json.object m) ts e = (m, refl)
 -- ---- a flat object
 
 record Flat (inner : List ℕ) (d : Data) : Type 0 where
+  opens : is_open inner ≡ true
   members : json.Members
   meant : of_json (json.object members) ≡ Some d
   shallow : depth (json.object members) ≤ 1
   within : (behind : List Lexeme) → punctuate fresh (lex between inner ++ behind) ≡ json_tokens (json.object members) ++ punctuate after_value behind
 
+-- what reads goes on in no string and no word at its end
+flat_is_open : (inner : List ℕ) (d : Data) → is_flat inner ≡ true → read inner ≡ Some d → (is_open inner && ends_at 125 inner) ≡ true
+flat_is_open [] d is e = absurd (false≢true is)
+flat_is_open (byte ∷ []) d is e =
+    let parts = and_parts (opens_plain (byte ∷ [])) _ is in
+    absurd (false≢true (sym (ap (λ b. b == 125) (eqb-true byte 123 (and_parts (byte == 123) true parts.0).0)) ∙ parts.1))
+flat_is_open (byte ∷ next ∷ rest) d is e =
+    let parts = and_parts (opens_plain (byte ∷ next ∷ rest)) (ends_at 125 (next ∷ rest)) is in
+    let plain = and_parts (byte == 123) (list_all is_plain (next ∷ rest)) parts.0 in
+    let first : byte ≡ 123 = eqb-true byte 123 plain.0 in
+    by plain.1 parts.0 parts.1 (ap (λ b. read (b ∷ next ∷ rest)) (sym first) ∙ e) (fold step Between (next ∷ rest)) refl
+  where
+    by : list_all is_plain (next ∷ rest) ≡ true → opens_plain (byte ∷ next ∷ rest) ≡ true → ends_at 125 (next ∷ rest) ≡ true → read (123 ∷ next ∷ rest) ≡ Some d
+        → (m : Mode) → fold step Between (next ∷ rest) ≡ m → (is_open (byte ∷ next ∷ rest) && ends_at 125 (byte ∷ next ∷ rest)) ≡ true
+    by plain opens ends said Between m = and_from (is_open (byte ∷ next ∷ rest)) (ends_at 125 (next ∷ rest)) (and_from (opens_plain (byte ∷ next ∷ rest)) _ opens (ap is_between m)) ends
+    by plain opens ends said InWord m = absurd (not_in_word (next ∷ rest) Between ends m)
+    by plain opens ends said InString m = absurd (never_unclosed (next ∷ rest) d plain said m)
+
 flat : (inner : List ℕ) (d : Data) → is_flat inner ≡ true → read inner ≡ Some d → Flat inner d
 flat inner d is e =
     let r = reads inner d e in
-    let l = lex_flat inner is in
+    let open_to_end = flat_is_open inner d is e in
+    let l = lex_flat inner open_to_end in
     let p = inner_tokens l.0 l.1.1 in
     let spelt : json_tokens r.tree ≡ Token.begin_object ∷ punctuate fresh (l.0 ++ token Token.end_object ∷ []) = sym r.spelt ∙ ap (punctuate fresh) l.1.0 ∙ opens_with _ in
     elim p.1.1 [
@@ -98,6 +95,7 @@ flat inner d is e =
           let o = object_of r.tree _ whole in
           let own : json_tokens (json.object o.0) ≡ Token.begin_object ∷ (p.0 ++ Token.end_object ∷ []) = ap json_tokens (sym o.1) ∙ whole in
           record {
+            opens = (and_parts (is_open inner) _ open_to_end).0;
             members = o.0;
             meant = ap of_json (sym o.1) ∙ r.meant;
             shallow = flat_depth p.0 o.0 p.1.0 own;
@@ -144,7 +142,7 @@ module _ (front back : List ℕ) (is : is_front front ≡ true) (u : IsUtf8 fron
         → tokens (front ++ (inner ++ back)) ≡ Token.begin_object ∷ (ts ++ (json_tokens (json.object f.members) ++ punctuate after_value (lex between back)))
     around inner d flat_is f =
         behind_front (inner ++ back) ∙ ap (λ l. Token.begin_object ∷ l) (goes (lex between (inner ++ back)))
-        ∙ ap (λ ls. Token.begin_object ∷ (ts ++ punctuate fresh ls)) (lex-joined inner back (and_parts (is_open inner) _ flat_is).0)
+        ∙ ap (λ ls. Token.begin_object ∷ (ts ++ punctuate fresh ls)) (lex-joined inner back f.opens)
         ∙ ap (λ l. Token.begin_object ∷ (ts ++ l)) (f.within (lex between back))
 
     framed : none_opens ts ≡ true → (whole : Data) → read (front ++ ((123 ∷ 125 ∷ []) ++ back)) ≡ Some whole → IsFrame front back

@@ -12,12 +12,12 @@ use Rattle.json.specs.Text.{content, plain, after_backslash, prepend}
 use Rattle.json.specs.Word.{is_operator, is_space, head, ends_word, after_digits, after_minus, after_sign, after_whole, after_fraction, after_exponent, after_number, number_before, literal, word}
 use Rattle.json.specs.Lex as json
 use Rattle.json.specs.Lex.{Lexeme, token, comma, colon, quote, backslash, operator, space, other, class, operator_lexeme, string_token, between, in_word, in_string, lex_byte, lex}
-use Rattle.json_frames.specs.Frame.{step, is_between, is_plain, is_open, ends_at, is_front, is_flat}
+use Rattle.json_frames.specs.Frame.{step, is_between, is_plain, is_open, ends_at, is_front}
 use Rattle.json_frames.specs.declared.mode.Mode.{Mode}
 use Rattle.json_frames.specs.declared.mode.Mode.TheVariants.{Between, InWord, InString}
 use Rattle.json_frames.proofs.Flat.{opens, lexeme_opens, no_lexeme_opens}
 
-abbrev ends : ℕ → Bool
+abbrev pub ends : ℕ → Bool
 ends x = is_operator x || is_space x
 
 -- ---- a word is read only up to the operator or the space that ends it
@@ -158,12 +158,12 @@ word_within w (x ∷ xs) rest h = go (ends x) refl h (word_within (w ++ x ∷ []
 
 -- ---- a string without escapes is read only up to its quote
 
-record Plain (x : ℕ) : Type 0 where
+pub record Plain (x : ℕ) : Type 0 where
   no_brace : (x == 123) ≡ false
   no_bracket : (x == 91) ≡ false
-  no_backslash : (x == 92) ≡ false
+  pub no_backslash : (x == 92) ≡ false
 
-plain_parts : (x : ℕ) → is_plain x ≡ true → Plain x
+pub plain_parts : (x : ℕ) → is_plain x ≡ true → Plain x
 plain_parts x h =
     let p = or_parts (x == 123 || x == 91) (x == 92) (not-true _ h) in
     let q = or_parts (x == 123) (x == 91) p.0 in
@@ -187,13 +187,13 @@ string_within (x ∷ xs) rest plains h =
 -- ---- one byte
 
 -- the lexer's mode
-abbrev mode_of : Mode → json.Mode
+abbrev pub mode_of : Mode → json.Mode
 mode_of Between = between
 mode_of InWord = in_word
 mode_of InString = in_string
 
 -- the mode behind one more byte: q says that it is a quote, and e that it ends a word
-abbrev next : Mode → Bool → Bool → Mode
+abbrev pub next : Mode → Bool → Bool → Mode
 next Between q e = if q then InString else (if e then Between else InWord)
 next InWord q e = if e then Between else InWord
 next InString q e = if q then Between else InString
@@ -204,7 +204,7 @@ step_is InWord x = refl
 step_is InString x = refl
 
 -- the lexeme that begins with the byte x before xs, if one does: q says that x is a quote, o that it is an operator, and s that it is a space
-abbrev begun : Mode → Bool → Bool → Bool → ℕ → List ℕ → List Lexeme
+abbrev pub begun : Mode → Bool → Bool → Bool → ℕ → List ℕ → List Lexeme
 begun Between true o s x xs = token (string_token (content plain xs)) ∷ []
 begun Between false true s x xs = operator_lexeme x ∷ []
 begun Between false false true x xs = []
@@ -213,7 +213,7 @@ begun InWord q true s x xs = operator_lexeme x ∷ []
 begun InWord q false s x xs = []
 begun InString q o s x xs = []
 
-abbrev begun_at : Mode → ℕ → List ℕ → List Lexeme
+abbrev pub begun_at : Mode → ℕ → List ℕ → List Lexeme
 begun_at m x xs = begun m (x == 34) (is_operator x) (is_space x) x xs
 
 lex_class : (m : Mode) (q o s : Bool) (x : ℕ) (xs : List ℕ) (k : json.Mode → List Lexeme) → (q ≡ true → (o || s) ≡ false)
@@ -233,7 +233,7 @@ lex_class InString false true s x xs k h = refl
 lex_class InString false false true x xs k h = refl
 lex_class InString false false false x xs k h = refl
 
-lex_at : (m : Mode) (x : ℕ) (xs : List ℕ) → is_plain x ≡ true → lex (mode_of m) (x ∷ xs) ≡ begun_at m x xs ++ lex (mode_of (step m x)) xs
+pub lex_at : (m : Mode) (x : ℕ) (xs : List ℕ) → is_plain x ≡ true → lex (mode_of m) (x ∷ xs) ≡ begun_at m x xs ++ lex (mode_of (step m x)) xs
 unfolding lex
 lex_at m x xs h =
     ap (λ b. lex_byte (mode_of m) (cond (x == 34) quote (cond b backslash (cond (is_operator x) operator (cond (is_space x) space other)))) x xs (λ n. lex n xs))
@@ -298,7 +298,7 @@ operator_opens_not x p = rw (p.no_brace, p.no_bracket) (mark_opens_not (x == 125
 alone : (l : Lexeme) → lexeme_opens l ≡ false → no_lexeme_opens (l ∷ []) ≡ true
 alone l h = ap (λ b. not b && true) h
 
-begun_opens_not : (m : Mode) (q o s : Bool) (x : ℕ) (xs : List ℕ) → Plain x → no_lexeme_opens (begun m q o s x xs) ≡ true
+pub begun_opens_not : (m : Mode) (q o s : Bool) (x : ℕ) (xs : List ℕ) → Plain x → no_lexeme_opens (begun m q o s x xs) ≡ true
 begun_opens_not Between true o s x xs p = alone (token (string_token (content plain xs))) (string_opens_not (content plain xs))
 begun_opens_not Between false true s x xs p = alone (operator_lexeme x) (operator_opens_not x p)
 begun_opens_not Between false false true x xs p = refl
@@ -308,7 +308,7 @@ begun_opens_not InWord q false s x xs p = refl
 begun_opens_not InString q o s x xs p = refl
 
 -- lexemes of which none opens, and then l
-abbrev EndsWith : Lexeme → List Lexeme → Type 0
+abbrev pub EndsWith : Lexeme → List Lexeme → Type 0
 EndsWith l found = (ls : List Lexeme) × ((found ≡ ls ++ l ∷ []) × (no_lexeme_opens ls ≡ true))
 
 -- the byte is read as the lexeme l wherever it does not stand in a string
@@ -346,7 +346,7 @@ ended_by byte l read m (x ∷ y ∷ xs) plains h last =
 
 -- ---- an object's text
 
-lex_brace : (byte : ℕ) (xs : List ℕ) → byte ≡ 123 → lex between (byte ∷ xs) ≡ token begin_object ∷ lex between xs
+pub lex_brace : (byte : ℕ) (xs : List ℕ) → byte ≡ 123 → lex between (byte ∷ xs) ≡ token begin_object ∷ lex between xs
 unfolding lex
 lex_brace byte xs e = ap (λ b. lex_byte between (class b) b xs (λ n. lex n xs)) e
 
@@ -384,5 +384,5 @@ open_to byte l read differs (first ∷ xs) h =
 pub lex_front : (text : List ℕ) → is_front text ≡ true → (ls : List Lexeme) × ((lex between text ≡ token begin_object ∷ (ls ++ colon ∷ [])) × (no_lexeme_opens ls ≡ true))
 lex_front text h = open_to 58 colon colon_read refl text h
 
-pub lex_flat : (text : List ℕ) → is_flat text ≡ true → (ls : List Lexeme) × ((lex between text ≡ token begin_object ∷ (ls ++ token end_object ∷ [])) × (no_lexeme_opens ls ≡ true))
+pub lex_flat : (text : List ℕ) → (is_open text && ends_at 125 text) ≡ true → (ls : List Lexeme) × ((lex between text ≡ token begin_object ∷ (ls ++ token end_object ∷ [])) × (no_lexeme_opens ls ≡ true))
 lex_flat text h = open_to 125 (token end_object) close_read refl text h

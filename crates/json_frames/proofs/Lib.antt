@@ -1,9 +1,11 @@
 pub mod Ends
 pub mod Flat
 pub mod Frames
-pub mod Inner
-pub mod Punctuating
 pub mod Holes
+pub mod Inner
 pub mod Lexing
 pub mod Positions
+pub mod Punctuating
+pub mod Reading
 pub mod Texts
+pub mod Unclosed

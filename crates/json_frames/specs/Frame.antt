@@ -23,7 +23,12 @@ is_between InString = false
 abbrev pub is_plain : ℕ → Bool
 is_plain byte = not (byte == 123 || byte == 91 || byte == 92)
 
--- plain bytes behind the brace that opens an object; no string and no word goes on behind them
+-- plain bytes behind the brace that opens an object
+abbrev pub opens_plain : List ℕ → Bool
+opens_plain [] = false
+opens_plain (byte ∷ rest) = byte == 123 && list_all is_plain rest
+
+-- and no string and no word goes on behind them
 abbrev pub is_open : List ℕ → Bool
 is_open [] = false
 is_open (byte ∷ rest) = byte == 123 && list_all is_plain rest && is_between (fold step Between rest)
@@ -37,9 +42,9 @@ ends_at byte (first ∷ next ∷ rest) = ends_at byte (next ∷ rest)
 abbrev pub is_front : List ℕ → Bool
 is_front text = is_open text && ends_at 58 text
 
--- an object, with no object and no list within, and without escapes
+-- from one brace to another, with no object and no list within, and without escapes
 abbrev pub is_flat : List ℕ → Bool
-is_flat text = is_open text && ends_at 125 text
+is_flat text = opens_plain text && ends_at 125 text
 
 -- the JSON value that a text is
 abbrev pub json_of : List ℕ → Option Data

@@ -2,7 +2,7 @@
 ghost use Rattle.std.specs.Prelude.{◌≡◌, ◌<◌, ◌==◌, ◌++◌, ◌∷◌, [], List, ℕ, length, position, option_map, IfOk, IfSome, IfNone, is_some, true, false};
 ghost use Rattle.std.specs.List.{list_all};
 ghost use Rattle.std.specs.Str.{is_utf8};
-ghost use Rattle.json_frames.specs.Frame.{is_plain, is_open, ends_at, is_front, is_flat, json_of, cut_around, is_around, frame_of, IsFrame};
+ghost use Rattle.json_frames.specs.Frame.{is_plain, opens_plain, is_open, ends_at, is_front, is_flat, json_of, cut_around, is_around, frame_of, IsFrame};
 
 use crate::mode::is_closed;
 use memchr::memchr;
@@ -15,6 +15,15 @@ fn are_plain(text: &[u8]) -> bool
 {
     text.iter()
         .all(|byte| !(*byte == b'{' || *byte == b'[' || *byte == b'\\'))
+}
+
+fn opens_plain(text: &[u8]) -> bool
+    ensures { result ≡ opens_plain text.now }
+{
+    match text {
+        [b'{', rest @ ..] => are_plain(rest),
+        _ => false,
+    }
 }
 
 fn is_open(text: &[u8]) -> bool
@@ -45,7 +54,7 @@ fn is_front(text: &[u8]) -> bool
 fn is_flat(text: &[u8]) -> bool
     ensures { result ≡ is_flat text.now }
 {
-    is_open(text) && ends_at(b'}', text)
+    opens_plain(text) && ends_at(b'}', text)
 }
 
 /// Two texts between which any flat object may stand: the whole is one JSON object then, the same but for that one.

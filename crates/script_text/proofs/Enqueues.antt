@@ -7,7 +7,7 @@ use Rattle.std.specs.Str.{is_utf8, IsAscii}
 use Rattle.std.proofs.lemmas.Str.{is_utf8-from_IsUtf8, IsUtf8-from_ascii}
 use Rattle.std.specs.declared.alloc.Global.{Global}
 use Rattle.aq_base.specs.declared.limits.TheConstants.{LINE_LIMIT}
-use Rattle.json_frames.specs.Frame.{is_plain, is_open, is_flat, json_of, Slots, no_slots, slot, fill, IsFrame}
+use Rattle.json_frames.specs.Frame.{is_plain, opens_plain, is_flat, json_of, Slots, no_slots, slot, fill, IsFrame}
 use Rattle.payload_records.specs.Payload.{payload_of}
 use Rattle.payload_records.specs.declared.payload.Payload.{Payload}
 use Rattle.queue_rows.specs.declared.statement.Enqueue.{Enqueue}
@@ -194,7 +194,7 @@ first_false a b e = ap (λ x. x && b) e
 not_blank : (front inner back : List ℕ) → is_flat inner ≡ true → list_all is_blank (front ++ (inner ++ back)) ≡ false
 not_blank [] [] back flat = absurd (false≢true flat)
 not_blank [] (byte ∷ rest) back flat =
-    let opens = eqb-true byte 123 (and_parts (byte == 123) (list_all is_plain rest) (and_parts _ _ (and_parts (is_open (byte ∷ rest)) _ flat).0).0).0 in
+    let opens = eqb-true byte 123 (and_parts (byte == 123) (list_all is_plain rest) (and_parts (opens_plain (byte ∷ rest)) _ flat).0).0 in
     first_false (is_blank byte) (list_all is_blank (rest ++ back)) (ap is_blank opens)
 not_blank (x ∷ front) inner back flat = both_false (is_blank x) (list_all is_blank (front ++ (inner ++ back))) (not_blank front inner back flat)
 
