@@ -145,7 +145,7 @@ fn is_object(alloc: Global, text: &[u8]) -> Result<bool, AllocError>
 }
 
 // What stands around the payload of a line, where every line is alike that has another one there.
-fn frame_of(alloc: Global, line: &[u8]) -> Result<Option<Frame>, AllocError>
+fn frame_alike(alloc: Global, line: &[u8]) -> Result<Option<Frame>, AllocError>
     ensures { IfOk result (λ o. IfSome o (λ f. (session : Name) (ask : Ask) → line_of line.now ≡ Some (Asked session (statements.Enqueue ask))
         → IsAlike f.0 f.1 session ask.queue ask.visibility)) }
 {
@@ -209,7 +209,7 @@ impl Place {
             return Ok(());
         }
         self.left -= 1;
-        let Some(frame) = frame_of(alloc, line)? else {
+        let Some(frame) = frame_alike(alloc, line)? else {
             return Ok(());
         };
         let queue = ask.queue.copied()?;
