@@ -95,9 +95,7 @@ impl<T> ReservedList<T> {
         ensures items { self.new.items ≡ self.old.items ++ item ∷ [] }
         ensures capacity { self.old.capacity ≤ self.new.capacity }
     {
-        let Ok(()) = self.items.push(item) else {
-            unreachable!()
-        };
+        self.items.push_reserved(item);
     }
 
     /// Takes the last item out, if there is one; its place stays.
