@@ -113,7 +113,8 @@ fn cut(text: &[u8]) -> Option<(&[u8], &[u8])>
 #[tactic(auto, using(crate::proofs::Inner::parted, crate::proofs::Inner::too_short, crate::proofs::Inner::front_is, crate::proofs::Inner::back_is))]
 fn between<'t>(front: &[u8], text: &'t [u8], back: &[u8]) -> Option<&'t [u8]>
     ensures some { IfSome result (λ inner. text.now ≡ front.now ++ (inner.now ++ back.now)) }
-    ensures none { IfNone result ((inner : List ℕ) → text.now ≡ front.now ++ (inner ++ back.now) → ⊥) }
+    ensures none { IfNone result ((inner : List ℕ)
+        → text.now ≡ front.now ++ (inner ++ back.now) → ⊥) }
 {
     if text.len() < front.len() + back.len() {
         return None;
@@ -142,7 +143,8 @@ fn joined(alloc: Global, front: &[u8], inner: &[u8], back: &[u8]) -> Result<Vec<
 // Whether the whole is JSON where an object without members stands between the two.
 #[tactic(auto, using(crate::proofs::Texts::json_read, crate::proofs::Texts::json_unread))]
 fn is_json_around(alloc: Global, front: &[u8], back: &[u8]) -> Result<bool, AllocError>
-    ensures { IfOk result (λ is. is ≡ is_some (json_of (front.now ++ ((123 ∷ 125 ∷ []) ++ back.now)))) }
+    ensures { IfOk result (λ is. is
+        ≡ is_some (json_of (front.now ++ ((123 ∷ 125 ∷ []) ++ back.now)))) }
 {
     let text = joined(alloc, front, b"{}", back)?;
     match Value::from_slice(alloc, &text) {
@@ -216,8 +218,10 @@ impl Frame {
     /// The flat object that stands in a text where it can stand in the frame, if the text is the same around it.
     #[tactic(auto, using(crate::proofs::Inner::one_part))]
     pub fn inner<'t>(&self, text: &'t [u8]) -> Option<&'t [u8]>
-        ensures some { IfSome result (λ inner. (text.now ≡ self.now.0 ++ (inner.now ++ self.now.1)) × (is_flat inner.now ≡ true)) }
-        ensures none { IfNone result ((inner : List ℕ) → text.now ≡ self.now.0 ++ (inner ++ self.now.1) → is_flat inner ≡ false) }
+        ensures some { IfSome result (λ inner. (text.now ≡ self.now.0 ++ (inner.now ++ self.now.1))
+            × (is_flat inner.now ≡ true)) }
+        ensures none { IfNone result ((inner : List ℕ)
+            → text.now ≡ self.now.0 ++ (inner ++ self.now.1) → is_flat inner ≡ false) }
     {
         let inner = between(&self.front, text, &self.back)?;
         if is_flat(inner) { Some(inner) } else { None }

@@ -60,7 +60,8 @@ fn json_if(alloc: Global, text: &[u8]) -> Result<Option<Value>, AllocError>
 }
 
 fn payload_in(alloc: Global, text: &[u8]) -> Result<Option<Payload>, AllocError>
-    ensures payload { IfOk result (λ o. IfSome o (λ p. option_map payload_of (json_of text.now) ≡ Some p)) }
+    ensures payload { IfOk result (λ o. IfSome o (λ p.
+        option_map payload_of (json_of text.now) ≡ Some p)) }
     ensures in_order { IfOk result (λ o. IfSome o (λ p. has_ascending_keys p ≡ true)) }
 {
     match json_if(alloc, text)? {
@@ -78,7 +79,8 @@ impl EarlierEnqueue {
         line: &[u8],
     ) -> Result<Option<Shared<Statement>>, AllocError>
         requires { IsEarlierEnqueue self.now }
-        ensures said { IfOk result (λ o. IfSome o (λ s. line_of line.now ≡ Some (Asked self.now.session s))) }
+        ensures said { IfOk result (λ o. IfSome o (λ s.
+            line_of line.now ≡ Some (Asked self.now.session s))) }
         ensures readable { IfOk result (λ o. IfSome o IsReadable) }
     {
         let Some(inner) = self.frame.inner(line) else {
@@ -108,7 +110,8 @@ fn is_empty_object(value: &Value) -> bool
 
 // Whether the payload is what stands in the frame.
 fn is_around_payload(alloc: Global, frame: &Frame) -> Result<bool, AllocError>
-    ensures { IfOk result (λ is. is ≡ true → option_map is_empty_object (option_and_then (get (codes "payload"))
+    ensures { IfOk result (λ is. is ≡ true
+        → option_map is_empty_object (option_and_then (get (codes "payload"))
         (json_of (frame.now.0 ++ ((123 ∷ 125 ∷ []) ++ frame.now.1)))) ≡ Some true) }
 {
     let text = frame.with(alloc, b"{}")?;
@@ -136,7 +139,8 @@ fn is_plain(alloc: Global, line: &[u8]) -> Result<bool, AllocError>
 
 // Whether a text is a JSON object.
 fn is_object(alloc: Global, text: &[u8]) -> Result<bool, AllocError>
-    ensures { IfOk result (λ is. is ≡ true → is_some (option_and_then as_object (json_of text.now)) ≡ true) }
+    ensures { IfOk result (λ is. is ≡ true
+        → is_some (option_and_then as_object (json_of text.now)) ≡ true) }
 {
     match json_if(alloc, text)? {
         Some(value) => Ok(value.is_object()),
@@ -146,7 +150,8 @@ fn is_object(alloc: Global, text: &[u8]) -> Result<bool, AllocError>
 
 // What stands around the payload of a line, where every line is alike that has another one there.
 fn frame_alike(alloc: Global, line: &[u8]) -> Result<Option<Frame>, AllocError>
-    ensures { IfOk result (λ o. IfSome o (λ f. (session : Name) (ask : Ask) → line_of line.now ≡ Some (Asked session (statements.Enqueue ask))
+    ensures { IfOk result (λ o. IfSome o (λ f. (session : Name) (ask : Ask)
+        → line_of line.now ≡ Some (Asked session (statements.Enqueue ask))
         → IsAlike f.0 f.1 session ask.queue ask.visibility)) }
 {
     let Some(frame) = Frame::around(alloc, line)? else {
