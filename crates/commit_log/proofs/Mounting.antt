@@ -20,13 +20,8 @@ use Rattle.database_recovery.specs.Recovering.{ContentsRecover, FramesLead, Jour
 use Rattle.commit_log.specs.Logged.{Logs, RecoversSame}
 use Rattle.commit_log.specs.Mounting.{HoldsTables}
 
-same_ok : {T E : Type 0} (answer : Result T E) (x y : T) → answer ≡ Ok x → answer ≡ Ok y → x ≡ y
+pub same_ok : {T E : Type 0} (answer : Result T E) (x y : T) → answer ≡ Ok x → answer ≡ Ok y → x ≡ y
 same_ok answer x y d e = cc
-
--- what is told stays told after a change
-pub still_told : (f : List ℕ → List ℕ) (old new : Option (List ℕ)) → new ≡ option_map f old → IsSome old → IsSome new
-still_told f (Some bytes) new is told = rw is refl
-still_told f None new is told = absurd (cc)
 
 pub is_told : (told : Option (List ℕ)) (bytes : List ℕ) → told ≡ Some bytes → IsSome told
 is_told told bytes is = rw is refl
@@ -71,38 +66,6 @@ module _ {D : Type 0} (seen : D → Option (List ℕ)) (images : D → ℕ → L
       → ForSome (seen j.disk) (λ _. (m : Mounted) → Rests seen images calls j m → after_bodies m.version empty_tables (bodies_in m.frames) ≡ Some t
       → EachImage (calls j.disk) (calls new) (images new) (Recovers t)) → EachImage (calls j.disk) (calls new) (images new) (Recovers t)
   compact_recovers t j new is held leaves = let told = some_told (seen j.disk) is in leaves told.0 told.1 held.m held.rests held.leads
-
-  -- a disk that has a journal that leads to the tables is mounted again
-  pub holds_again : (t : Tables) (disk : D) (m : Mounted) (j : Journaled D) (frames : List FrameAt) → HasJournal seen images calls disk m → IsSome (seen disk)
-      → after_bodies m.version empty_tables (bodies_in m.frames) ≡ Some t → ForSome (seen disk) (λ bytes. journal bytes ≡ Ok (mounted_as j frames))
-      → (IsDiskSettled seen images calls disk → Rests seen images calls j (mounted_as j frames)) → HoldsTables seen images calls t j
-  holds_again t disk m j frames has is leads reads rests =
-      let told = some_told (seen disk) is in
-      let at = has told.0 told.1 in
-      let same : m ≡ mounted_as j frames = same_ok (journal told.0) m (mounted_as j frames) at.reads (reads told.0 told.1) in
-      record {
-        m = mounted_as j frames;
-        rests = rests (settled_told (seen disk) told.0 (images disk (calls disk)) told.1 at.settled);
-        leads = subst (λ (n : Mounted). after_bodies n.version empty_tables (bodies_in n.frames) ≡ Some t) same leads;
-      }
-
-  -- and nothing is lost by that
-  pub recovers_again : ContentsRecover → MountRecovers → (t : Tables) (disk new : D) (m : Mounted) → HasJournal seen images calls disk m → IsSome (seen disk)
-      → after_bodies m.version empty_tables (bodies_in m.frames) ≡ Some t → MountRuns seen images calls disk new → EachImage (calls disk) (calls new) (images new) (Recovers t)
-  recovers_again contents law t disk new m has is leads runs =
-      let told = some_told (seen disk) is in
-      let at = has told.0 told.1 in
-      let settled = settled_told (seen disk) told.0 (images disk (calls disk)) told.1 at.settled in
-      let bytes_recover : Recovers t told.0 = contents (contents_in m) t told.0 (contents_same m told.0 at.reads) leads in
-      each_more (calls disk) (calls new) (images new) (RecoversSame told.0) (Recovers t) (λ image same. same ∙ bytes_recover)
-      (mount_keeps law disk new runs settled told.0 told.1)
-
-  -- nor by all that writing it anew did
-  pub anew_recovers : ContentsRecover → MountRecovers → (t : Tables) (first disk new : D) (m : Mounted) → EachImage (calls first) (calls disk) (images disk) (Recovers t)
-      → HasJournal seen images calls disk m → IsSome (seen disk) → after_bodies m.version empty_tables (bodies_in m.frames) ≡ Some t
-      → KeepsEarlier (calls disk) (images disk) (images new) → MountRuns seen images calls disk new → EachImage (calls first) (calls new) (images new) (Recovers t)
-  anew_recovers contents law t first disk new m written has is leads earlier runs =
-      each_both (calls first) (calls disk) (calls new) (images disk) (images new) (Recovers t) written earlier (recovers_again contents law t disk new m has is leads runs)
 
   -- what recovers the tables recovers what the bytes do
   pub recovers_same : (from mid to : ℕ) (old new : ℕ → List ℕ → Type 0) (t : Tables) (bytes : List ℕ) → recovered bytes ≡ Ok t → EachImage from mid old (RecoversSame bytes) → KeepsEarlier mid old new

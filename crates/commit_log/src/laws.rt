@@ -1,5 +1,5 @@
 // Laws of what is logged, each a function without a body of its own.
-ghost use Rattle.commit_log.specs.LogLaws.{LogRecovers, LoggableSoFar};
+ghost use Rattle.commit_log.specs.LogLaws.{LogKeeps, LogRecovers, LoggableSoFar};
 
 use aq_disk::Disk;
 use database_recovery::contents_recover;
@@ -15,4 +15,11 @@ pub fn log_recovers<D: Disk>()
     ensures { LogRecovers D.seen D.is_image D.calls }
 {
     contents_recover();
+}
+
+/// A log that is left alone keeps its tables.
+pub fn log_keeps<D: Disk>()
+    ensures { LogKeeps D.Disk }
+{
+    log_recovers::<D>();
 }

@@ -22,9 +22,9 @@ use std::marker::Model;
 /// The journal of a database's commits, in the version that is written. Contracts see what they see of the journal.
 #[derive(Drop)]
 pub struct CommitLog<D: Disk> {
-    journal: Journal<D>,
+    pub(crate) journal: Journal<D>,
     // The bytes of the commit that was queued last; its memory is used again for the next one.
-    spelled: Vec<u8>,
+    pub(crate) spelled: Vec<u8>,
 }
 
 impl<D: Disk> Model for CommitLog<D> {
@@ -65,6 +65,13 @@ impl<D: Disk> CommitLog<D> {
         ensures { result ≡ D.calls self.now.disk }
     {
         self.journal.disk().calls()
+    }
+
+    /// How many frames the journal has.
+    pub fn count(&self) -> u64
+        ensures { result ≡ self.now.count }
+    {
+        self.journal.count()
     }
 
     /// The number of the failing call of the first append that failed.

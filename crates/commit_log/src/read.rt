@@ -1,14 +1,8 @@
 // The journal of a disk, and the tables that its frames lead to.
-ghost use Rattle.std.specs.Prelude.{◌≡◌, ◌↔◌, ◌≤◌, [], ℕ, List, None, IsSome, IfOk, IfErr, OnOk, Ok, Err};
-ghost use Rattle.std.specs.Option.{ForSome};
-ghost use Rattle.aq_disk.specs.Causes.{Rose};
-ghost use Rattle.aq_disk.specs.Disk.{KeepsEarlier};
+ghost use Rattle.std.specs.Prelude.{◌≡◌, ◌↔◌, ℕ, List, IfOk, IfErr};
 ghost use Rattle.redo_journal.specs.Mount.{HasKnownVersion, IsDamage, IsFault as IsMountFault, disk_in as disk_in_mount};
-ghost use Rattle.redo_journal.specs.Runs.{CrashLeaves, IsDiskSettled};
 ghost use Rattle.redo_records.specs.Recovered.{recovered};
-ghost use Rattle.database_recovery.specs.Sound.{IsSound};
-ghost use Rattle.commit_log.specs.Logged.{RecoversSame};
-ghost use Rattle.commit_log.specs.Mounting.{HoldsTables, IsDamageOf, IsFault, disk_after, disk_in};
+ghost use Rattle.commit_log.specs.Mounting.{IsDamageOf, IsFault, IsRead, IsRefused, IsUnwritten, disk_after, disk_in};
 
 use crate::LogFault;
 use aq_disk::Disk;
@@ -37,27 +31,12 @@ fn fault_of<D>(alloc: Global, fault: MountFault<D>) -> LogFault<D>
     }
 }
 
-/// The journal of a disk, whichever version it has, and the tables that it leads to. A disk that has none yet is begun.
-pub(crate) fn read_from<D: Disk>(
-    alloc: Global,
-    disk: D,
-) -> Result<(Journal<D>, PreparedStore), LogFault<D>>
-    ensures recovers { IfOk result
-        (λ r. ForSome (D.seen disk) (λ bytes. recovered bytes ≡ Ok r.1.tables)) }
-    ensures sound { IfOk result (λ r. IsSound r.1.tables) }
-    ensures holds { IfOk result (λ r. IsDiskSettled D.seen D.is_image D.calls disk
-        → HoldsTables D.seen D.is_image D.calls r.1.tables r.0) }
-    ensures told { IfOk result (λ r. ForSome (D.seen disk) (λ _. IsSome (D.seen r.0.disk))) }
-    ensures empty { IfOk result (λ r. r.0.queued ≡ []) }
-    ensures unfailed { IfOk result (λ r. r.0.failed_at ≡ None) }
-    ensures damaged { IfErr result
-        (λ e. ForSome (D.seen disk) (λ bytes. IsDamageOf (recovered bytes) e)) }
-    ensures crash { CrashLeaves D.seen D.is_image D.calls disk (disk_after result) RecoversSame }
-    ensures earlier { KeepsEarlier (D.calls disk) (D.is_image disk) (D.is_image (disk_after result)) }
-    ensures later { D.calls disk ≤ D.calls (disk_after result) }
-    ensures fine { OnOk result (D.faults (disk_after result) ≡ D.faults disk) }
-    ensures fault { IfErr result (λ e. IsFault e → Rose (D.faults disk) (D.faults (disk_in e))) }
-    ensures no_fault { IfErr result (λ e. (IsFault e → ⊥) → D.faults (disk_in e) ≡ D.faults disk) }
+/// The journal of a disk, whichever version it has, and a store of the tables that its commits lead to. A disk that has none yet is begun;
+/// else nothing is written, whatever is answered. `Damaged` tells where the disk is damaged first.
+pub fn read_log<D: Disk>(alloc: Global, disk: D) -> Result<(Journal<D>, PreparedStore), LogFault<D>>
+    ensures read { IfOk result (λ r. IsRead D.Disk disk r.1.tables r.0) }
+    ensures refused { IfErr result (IsRefused D.Disk disk) }
+    ensures unwritten { IsUnwritten D.Disk disk (disk_after result) }
 {
     journal_recovers();
     frames_lead();

@@ -1,65 +1,41 @@
-use Rattle.std.proofs.Common.{sym, subst}
-use Rattle.aq_disk.specs.Disk.{EachImage}
-use Rattle.redo_journal.specs.Journal.{area}
-use Rattle.redo_journal.specs.Mount.{disk_in as disk_in_mount}
-use Rattle.redo_records.specs.Spelling.{encode}
-use Rattle.checkpoint.specs.Answer.{disk_in as disk_in_compact}
-use Rattle.checkpoint.specs.Compaction.{compacted_journal, turned_bytes}
-use Rattle.checkpoint_commit.specs.Checkpoint.{checkpoint_of}
-use Rattle.std.proofs.Common.{◌∷◌, []}
-use Rattle.crash_laws.specs.Crash.{Recovers}
-use Rattle.commit_log.proofs.Mounting.{anew_recovers, compact_recovers, holds_again, still_told}
+use Rattle.std.proofs.Common.{◌∙◌, sym, subst}
+use Rattle.queue_rows.specs.declared.tables.Tables.{Tables}
+use Rattle.commit_log.specs.Mounting.{IsRead}
+use Rattle.commit_log.proofs.Renewing.{IsPut, mounted_anew, refused_anew, refused_compact, refused_version}
 use Rattle.commit_log.proofs.anew.written_anew.Goals as goal
 
-pub returns-in-Err-clause-crash : goal.returns-in-Err-clause-crash
-returns-in-Err-clause-crash g c is held =
-    let disk = g.D.Disk in
-    let t = c.args.tables.now in
+pub returns-in-Err-clause-refused : goal.returns-in-Err-clause-refused
+returns-in-Err-clause-refused g c disk read =
     let j = c.args.journal in
-    subst (λ d. EachImage (disk.calls j.disk) (disk.calls d) (disk.is_image d) (Recovers t)) (sym c.fault_of.ensures.disk)
-    (compact_recovers disk.seen disk.is_image disk.calls t j (disk_in_compact c.in-Err.fault) is held c.in-Err.ensures.crash)
+    let t = c.tables.result.now in
+    let read_so = subst (λ (u : Tables). IsRead g.D.Disk disk u j) (sym c.tables.ensures) read in
+    let k = c.in-Err.ensures in
+    let f = c.fault_of.ensures in
+    refused_compact g.D.Disk disk t j read_so c.requires.old c.fault_of.result c.in-Err.fault f.undamaged f.disk f.fault k.crash k.earlier k.later k.fault k.memory
 
-pub returns-then-version-eq-WRITTEN_VERSION-clause-holds : goal.returns-then-version-eq-WRITTEN_VERSION-clause-holds
-returns-then-version-eq-WRITTEN_VERSION-clause-holds g c is held =
-    let disk = g.D.Disk in
-    let t = c.args.tables.now in
+pub returns-in-Err-read_log-clause-refused : goal.returns-in-Err-read_log-clause-refused
+returns-in-Err-read_log-clause-refused g c disk read =
     let j = c.args.journal in
-    let body = encode (checkpoint_of t) in
-    let told = still_told (turned_bytes j.active (area (body ∷ []))) (disk.seen j.disk) (disk.seen c.in-Ok.disk) c.in-Ok.ensures.bytes is in
-    holds_again disk.seen disk.is_image disk.calls t c.in-Ok.disk (compacted_journal j.active body) c.in-Ok-mount.mounted.0 c.in-Ok-mount.mounted.1 (c.in-Ok.ensures.rests held.m held.rests) told
-    (c.checkpoint_restores.ensures t c.requires.sound) c.in-Ok-mount.ensures.reads c.in-Ok-mount.ensures.rests
+    let t = c.tables.result.now in
+    let read_so = subst (λ (u : Tables). IsRead g.D.Disk disk u j) (sym c.tables.ensures) read in
+    let k = c.in-Ok.ensures in
+    let is_put : IsPut g.D.Disk t j c.in-Ok.disk = record { bytes = k.bytes; rests = k.rests; crash = k.crash; earlier = k.earlier; later = k.later; fine = k.fine } in
+    refused_anew g.D.Disk disk t j read_so c.requires.old c.contents_recover.ensures c.checkpoint_restores.ensures g.met.D.Disk.told_limit c.in-Ok.disk is_put _ c.in-Err-read_log.ensures.refused
 
-pub returns-then-version-eq-WRITTEN_VERSION-clause-crash : goal.returns-then-version-eq-WRITTEN_VERSION-clause-crash
-returns-then-version-eq-WRITTEN_VERSION-clause-crash g c is held =
-    let disk = g.D.Disk in
-    let t = c.args.tables.now in
+pub returns-then-version-eq-WRITTEN_VERSION-clause-mounted : goal.returns-then-version-eq-WRITTEN_VERSION-clause-mounted
+returns-then-version-eq-WRITTEN_VERSION-clause-mounted g c disk read =
     let j = c.args.journal in
-    let body = encode (checkpoint_of t) in
-    let told = still_told (turned_bytes j.active (area (body ∷ []))) (disk.seen j.disk) (disk.seen c.in-Ok.disk) c.in-Ok.ensures.bytes is in
-    anew_recovers disk.seen disk.is_image disk.calls c.contents_recover.ensures c.mount_recovers.ensures t j.disk c.in-Ok.disk c.in-Ok-mount.mounted.0.disk (compacted_journal j.active body)
-    (compact_recovers disk.seen disk.is_image disk.calls t j c.in-Ok.disk is held c.in-Ok.ensures.crash) (c.in-Ok.ensures.rests held.m held.rests) told
-    (c.checkpoint_restores.ensures t c.requires.sound) c.in-Ok-mount.ensures.earlier c.in-Ok-mount.ensures.crash
+    let t = c.tables.result.now in
+    let read_so = subst (λ (u : Tables). IsRead g.D.Disk disk u j) (sym c.tables.ensures) read in
+    let k = c.in-Ok.ensures in
+    let is_put : IsPut g.D.Disk t j c.in-Ok.disk = record { bytes = k.bytes; rests = k.rests; crash = k.crash; earlier = k.earlier; later = k.later; fine = k.fine } in
+    mounted_anew g.D.Disk disk t j read_so c.requires.old c.contents_recover.ensures c.checkpoint_restores.ensures g.met.D.Disk.told_limit c.in-Ok.disk is_put _ _ c.in-Ok-read_log.ensures.read (sym c.version.ensures ∙ c.if-version-eq-WRITTEN_VERSION.true)
 
-pub returns-else-version-eq-WRITTEN_VERSION-clause-crash : goal.returns-else-version-eq-WRITTEN_VERSION-clause-crash
-returns-else-version-eq-WRITTEN_VERSION-clause-crash g c is held =
-    let disk = g.D.Disk in
-    let t = c.args.tables.now in
+pub returns-clause-refused : goal.returns-clause-refused
+returns-clause-refused g c disk read =
     let j = c.args.journal in
-    let body = encode (checkpoint_of t) in
-    let told = still_told (turned_bytes j.active (area (body ∷ []))) (disk.seen j.disk) (disk.seen c.in-Ok.disk) c.in-Ok.ensures.bytes is in
-    subst (λ d. EachImage (disk.calls j.disk) (disk.calls d) (disk.is_image d) (Recovers t)) (sym c.into_disk.ensures)
-    (anew_recovers disk.seen disk.is_image disk.calls c.contents_recover.ensures c.mount_recovers.ensures t j.disk c.in-Ok.disk c.in-Ok-mount.mounted.0.disk (compacted_journal j.active body)
-    (compact_recovers disk.seen disk.is_image disk.calls t j c.in-Ok.disk is held c.in-Ok.ensures.crash) (c.in-Ok.ensures.rests held.m held.rests) told
-    (c.checkpoint_restores.ensures t c.requires.sound) c.in-Ok-mount.ensures.earlier c.in-Ok-mount.ensures.crash)
-
-pub returns-in-Err-mount-clause-crash : goal.returns-in-Err-mount-clause-crash
-returns-in-Err-mount-clause-crash g c is held =
-    let disk = g.D.Disk in
-    let t = c.args.tables.now in
-    let j = c.args.journal in
-    let body = encode (checkpoint_of t) in
-    let told = still_told (turned_bytes j.active (area (body ∷ []))) (disk.seen j.disk) (disk.seen c.in-Ok.disk) c.in-Ok.ensures.bytes is in
-    subst (λ d. EachImage (disk.calls j.disk) (disk.calls d) (disk.is_image d) (Recovers t)) (sym c.fault_again.ensures.disk)
-    (anew_recovers disk.seen disk.is_image disk.calls c.contents_recover.ensures c.mount_recovers.ensures t j.disk c.in-Ok.disk (disk_in_mount c.in-Err-mount.fault) (compacted_journal j.active body)
-    (compact_recovers disk.seen disk.is_image disk.calls t j c.in-Ok.disk is held c.in-Ok.ensures.crash) (c.in-Ok.ensures.rests held.m held.rests) told
-    (c.checkpoint_restores.ensures t c.requires.sound) c.in-Err-mount.ensures.earlier c.in-Err-mount.ensures.crash)
+    let t = c.tables.result.now in
+    let read_so = subst (λ (u : Tables). IsRead g.D.Disk disk u j) (sym c.tables.ensures) read in
+    let k = c.in-Ok.ensures in
+    let is_put : IsPut g.D.Disk t j c.in-Ok.disk = record { bytes = k.bytes; rests = k.rests; crash = k.crash; earlier = k.earlier; later = k.later; fine = k.fine } in
+    refused_version g.D.Disk disk t j read_so c.requires.old c.contents_recover.ensures c.checkpoint_restores.ensures g.met.D.Disk.told_limit c.in-Ok.disk is_put _ _ _ _ c.into_disk.ensures c.in-Ok-read_log.ensures.read (λ is. c.if-version-eq-WRITTEN_VERSION.false (c.version.ensures ∙ is))
