@@ -1,9 +1,11 @@
 pub mod Brief
+pub mod Compaction
 pub mod Counts
 pub mod Growing
 pub mod Lists
 pub mod Logging
 pub mod Mounting
+pub mod Ordering
 pub mod Stepping
 pub mod Worlds
 pub mod Writing

@@ -90,7 +90,7 @@ module _ {D : Type 0} (seen : D → Option (List ℕ)) (images : D → ℕ → L
     }
 
     pub entry_adds : AddsEntries actor (held_of w l) (held_of v m)
-    entry_adds = adds_one (held_of w l) (held_of v m) e a.by entries
+    entry_adds = adds_one (held_of w l) (held_of v m) e a.by entries (λ b. subst AreBrief (sym entries) (quiet_push (counted w.entries l.calls.items) e a.is b))
 
     pub entry_brief : IsBrief calls (held_of w l) → IsBrief calls (held_of v m)
     entry_brief b = record {
@@ -276,8 +276,8 @@ module _ {D : Type 0} (seen : D → Option (List ℕ)) (images : D → ℕ → L
           (ap (λ (j : Journaled D). calls j.disk) (sym home_same)) (ap (λ (j : Journaled D). calls j.disk) (sym away_same)) (counted w.entries l.calls.items)));
     }
 
-    pub flush_adds : AddsEntries actor (held_of w l) (held_of v n)
-    flush_adds = adds_one (held_of w l) (held_of v n) f a.by flush_entries
+    pub flush_adds : IsBrief calls (held_of v n) → AddsEntries actor (held_of w l) (held_of v n)
+    flush_adds b = adds_one (held_of w l) (held_of v n) f a.by flush_entries (λ _. b.flushes)
 
     -- the places that are promised are still there, but for that of the flush
     pub flush_room : (old new : ℕ) → new + 1 ≤ old → HasPlaces old l.calls → l.calls.capacity ≤ n.calls.capacity → HasPlaces new n.calls

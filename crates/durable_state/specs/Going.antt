@@ -1,6 +1,7 @@
 -- How a run goes on.
 use Rattle.std.specs.Prelude.{◌≡◌, ◌++◌, ℕ, List, Option, All}
 use Rattle.queue_rows.specs.declared.history.Entry.{Entry}
+use Rattle.durable_state.specs.Brief.{AreBrief}
 use Rattle.durable_state.specs.Held.{Held}
 use Rattle.durable_state.specs.Survival.{Begun, Survives}
 
@@ -15,8 +16,10 @@ module _ {D : Type 0} (seen : D → Option (List ℕ)) (images : D → ℕ → L
   pub goes_on : (a b c : Held D) → Goes seen images calls faults a b → Goes seen images calls faults b c → Goes seen images calls faults a c
   goes_on a b c first second = record { on = λ begun s. second.on begun (first.on begun s) }
 
--- the run has further entries behind those before, each of that actor, with the disks' call numbers behind it
+-- the run has further entries behind those before, each of that actor, with the disks' call numbers behind it; where each flush before made
+-- few calls, so did each among them
 pub record AddsEntries {D : Type 0} (actor : ℕ) (old new : Held D) : Type 0 where
   pub more : List Entry
   pub entries : new.entries ≡ old.entries ++ more
   pub own : All (λ (e : Entry). e.actor ≡ actor) more
+  pub brief : AreBrief old.entries → AreBrief new.entries

@@ -1,5 +1,5 @@
 -- What a flush makes of the logs.
-use Rattle.std.specs.Prelude.{◌≡◌, ℕ, List, [], true, Option, None}
+use Rattle.std.specs.Prelude.{◌≡◌, ℕ, List, [], true, Option, None, IsSome}
 use Rattle.aq_base.specs.declared.DbId.{DbId}
 use Rattle.history_laws.specs.Made.{changes_at}
 use Rattle.history_laws.specs.Durability.{is_flush}
@@ -23,3 +23,9 @@ pub record Writes {D : Type 0} (seen : D → Option (List ℕ)) (images : D → 
 pub record Flushes {D : Type 0} (seen : D → Option (List ℕ)) (images : D → ℕ → List ℕ → Type 0) (calls : D → ℕ) (old new : Journaled D) : Type 0 where
   pub unfailed : new.failed_at ≡ None
   pub comes : (disk : D) (r : Run) (e : Entry) → IsFlushEntry r.db (calls new.disk) e → SurvivesAt seen images calls disk r old → SurvivesAt seen images calls disk (with_entry e r) new
+
+-- Home is written first, of logs that had not failed. Where its disk failed no call was made on away's; and where away's failed, all that was queued
+-- at home is on its disk.
+pub record WritesHomeFirst {D : Type 0} (old_away home away : Journaled D) : Type 0 where
+  pub away_waits : IsSome home.failed_at → away ≡ old_away
+  pub home_done : IsSome away.failed_at → (home.failed_at ≡ None) × (home.queued ≡ [])

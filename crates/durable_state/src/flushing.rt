@@ -1,9 +1,10 @@
 // The steps of a run that make its commits durable. They take no memory.
 ghost use Rattle.std.specs.Prelude.{◌≡◌, IsOk, IsSome, OnOk, OnErr, true, false};
-ghost use Rattle.queue_rows.specs.Turns.{flushed, told};
+ghost use Rattle.queue_rows.specs.Turns.{flushed, is_durable, told};
 ghost use Rattle.session_registry.specs.Sessions.{IsAbsent, OfSession};
 ghost use Rattle.durable_state.specs.Going.{AddsEntries, Goes};
 ghost use Rattle.durable_state.specs.Held.{HasFailed};
+ghost use Rattle.durable_state.specs.Writing.{WritesHomeFirst};
 
 use crate::broken::Halted;
 use crate::durable_state::DurableState;
@@ -27,6 +28,11 @@ impl<D: Disk> DurableState<D> {
         ensures disks { Goes D.seen D.is_image D.calls D.faults self.old self.new }
         ensures halted { OnErr result (HasFailed self.new) }
         ensures unfailed { OnOk result (HasFailed self.new → ⊥) }
+
+        // Where none had failed before, home is written first; and what fails is due, since a commit is not durable.
+        ensures order { (HasFailed self.old → ⊥)
+            → WritesHomeFirst self.old.away self.new.home self.new.away }
+        ensures due { OnErr result ((HasFailed self.old → ⊥) → is_durable self.old.world ≡ false) }
     {
         if self.logs.has_failed() {
             return Err(Halted);
@@ -52,6 +58,8 @@ impl<D: Disk> DurableState<D> {
         ensures disks { Goes D.seen D.is_image D.calls D.faults self.old self.new }
         ensures halted { OnErr result (HasFailed self.new) }
         ensures fine { OnOk result (HasFailed self.new → HasFailed self.old) }
+        ensures order { (HasFailed self.old → ⊥)
+            → WritesHomeFirst self.old.away self.new.home self.new.away }
     {
         let Some(_) = self.state.session(at) else {
             return Ok(());

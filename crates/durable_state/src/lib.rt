@@ -2,6 +2,7 @@
 #![tactic(auto)]
 
 mod broken;
+mod compacting;
 mod counting;
 mod disk_calls;
 mod durable_state;
@@ -11,5 +12,6 @@ mod run_logs;
 mod steps;
 
 pub use broken::{Broken, Halted};
-pub use commit_log::{CommitLog, LogFault};
+pub use commit_log::{CommitLog, LogFault, read_log};
+pub use compacting::{CompactCause, Compacted, Uncompacted};
 pub use durable_state::{DurableState, Finished, Unmounted};

@@ -53,6 +53,7 @@ pub(crate) fn append<D: Disk>(log: &mut CommitLog<D>) -> Result<(), JournalFault
     ensures writes { Writes D.seen D.is_image D.calls D.faults log.old log.new }
     ensures flushes { OnOk result (Flushes D.seen D.is_image D.calls log.old log.new) }
     ensures failed { OnErr result (IsSome log.new.failed_at) }
+    ensures queued { OnOk result (log.new.queued ≡ []) }
     ensures number { D.calls log.new.disk ≤ D.calls log.old.disk + 4 }
 {
     calls_pass::<D>();

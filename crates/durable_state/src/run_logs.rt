@@ -3,7 +3,7 @@ ghost use Rattle.std.specs.Prelude.{◌≡◌, ◌≤◌, ◌+◌, ◌⊎◌, �
 ghost use Rattle.queue_rows.specs.World.{at_home, at_away};
 ghost use Rattle.run_state.specs.Reserved.{HasPlaces};
 ghost use Rattle.durable_state.specs.Queueing.{Enters, Queues, numbers, queued_of, taken_back};
-ghost use Rattle.durable_state.specs.Writing.{Flushes, Writes};
+ghost use Rattle.durable_state.specs.Writing.{Flushes, Writes, WritesHomeFirst};
 
 use crate::disk_calls::DiskCalls;
 use crate::log_steps::{append, queue, queue_nothing, unqueue};
@@ -184,6 +184,7 @@ impl<D: Disk> RunLogs<D> {
         ensures away_flushes { OnOk result (Flushes D.seen D.is_image D.calls self.old.away self.new.away) }
         ensures calls { self.new.calls ≡ self.old.calls }
         ensures failed { OnErr result (IsSome self.new.home.failed_at ⊎ IsSome self.new.away.failed_at) }
+        ensures order { WritesHomeFirst self.old.away self.new.home self.new.away }
         ensures home_number { D.calls self.new.home.disk ≤ D.calls self.old.home.disk + 4 }
         ensures away_number { D.calls self.new.away.disk ≤ D.calls self.old.away.disk + 4 }
     {

@@ -6,6 +6,7 @@ use Rattle.run_state.proofs.Calls.{not_absent}
 use Rattle.durable_state.specs.Going.{AddsEntries, Goes, goes_on}
 use Rattle.durable_state.specs.Held.{Held, HasFailed}
 use Rattle.durable_state.proofs.Growing.{adds_on, adds_same}
+use Rattle.durable_state.proofs.Ordering.{none_stopped}
 use Rattle.durable_state.proofs.Stepping.{follows_passed, held_of}
 use Rattle.durable_state.proofs.Worlds.{flushed_behind, owed_behind, session_behind, still_flushed, told_adds, told_on, told_takes}
 use Rattle.durable_state.proofs.durable_state.DurableState.tell.Goals as goal
@@ -99,6 +100,27 @@ returns-clause-fine g c failed =
     let f = follows_passed g.D.Disk.seen g.D.Disk.is_image g.D.Disk.calls g.D.Disk.faults c.args.at w v c.self-2.inside.logs c.pass.new.self c.self-2.invariant.few c.self-2.invariant.brief c.self-2.invariant.room takes c.pass.ensures.capacity
     (c.pass.ensures.enters w.moment) (told_adds c.args.at c.args.number w v c.in-Some.field-0.now there still c.tell.ensures.told) in
     absurd (c.in_ok-flush.ensures.unfailed (subst (λ (o : Held _). HasFailed o) c.self-2.view_is (f.fine failed)))
+
+pub returns-clause-order : goal.returns-clause-order
+returns-clause-order g c fine =
+    let w = c.self-2.inside.state in
+    let v = c.tell.new.self in
+    let now = flushed_behind c.args.at c.self.inside.state c.args.self.now.world c.flush.new.self.world w (ap (λ (o : Held _). o.world) c.self.view_is) (ap (λ (o : Held _). o.world) c.self-2.view_is) c.in_ok-flush.ensures.ok in
+    let behind = now ∙ ap (λ (o : Held _). flushed c.args.at o.world) c.self.view_is in
+    let is : option_map session_of (Some c.in-Some.field-0.now) ≡ option_map unmarked (slice_get c.self.inside.state.sessions c.args.at) = sym (ap (λ o. option_map session_of (option_copied o)) c.in-Some.is) ∙ c.session.ensures in
+    let there = session_behind c.args.at c.self.inside.state w c.in-Some.field-0.now now is in
+    let owed = owed_behind c.args.at c.args.self.now.world w behind c.requires in
+    let takes = told_takes c.args.at c.args.number w v c.in-Some.field-0.now there owed c.tell.ensures.told in
+    let still = still_flushed c.args.at c.self.inside.state w now in
+    let f = follows_passed g.D.Disk.seen g.D.Disk.is_image g.D.Disk.calls g.D.Disk.faults c.args.at w v c.self-2.inside.logs c.pass.new.self c.self-2.invariant.few c.self-2.invariant.brief c.self-2.invariant.room takes c.pass.ensures.capacity
+    (c.pass.ensures.enters w.moment) (told_adds c.args.at c.args.number w v c.in-Some.field-0.now there still c.tell.ensures.told) in
+    none_stopped c.args.self.now (held_of v c.pass.new.self) (λ failed. c.in_ok-flush.ensures.unfailed (subst (λ (o : Held _). HasFailed o) c.self-2.view_is (f.fine failed)))
+
+pub returns-in_err-flush-clause-order : goal.returns-in_err-flush-clause-order
+returns-in_err-flush-clause-order g c fine = c.flush.ensures.order fine
+
+pub returns-in_default-clause-order : goal.returns-in_default-clause-order
+returns-in_default-clause-order g c fine = none_stopped c.args.self.now c.args.self.now fine
 
 pub returns-in_default-clause-adds : goal.returns-in_default-clause-adds
 returns-in_default-clause-adds g c = adds_same _ _ refl
