@@ -8,6 +8,18 @@ use Rattle.durable_state.specs.declared.broken.Broken.{Broken}
 use Rattle.durable_state.specs.declared.broken.Broken.TheVariants.{Halted, Memory}
 use Rattle.aq_world.specs.Going.{GoesAs, GoesQuietly}
 
+-- ---- answers that are passed up
+
+-- what wants memory was not halted
+pub never_halted : {T P : Type 0} (r : Result T Broken) → IsErrAnd r (λ e. e ≡ Memory) → r ≡ Err Halted → P
+never_halted (Ok x) none is = absurd none
+never_halted (Err e) memory is = absurd (cc)
+
+-- what is halted was halted before
+pub passed_halted : {S T : Type 0} (before : Result S Broken) (why : Broken) (r : Result T Broken) → before ≡ Err why → IsErrAnd r (λ e. e ≡ why) → r ≡ Err Halted → before ≡ Err Halted
+passed_halted before why (Ok x) was none is = absurd none
+passed_halted before why (Err e) was same is = cc
+
 module _ {D : Type 0} {actor : ℕ} {seen : D → Option (List ℕ)} {images : D → ℕ → List ℕ → Type 0} {calls faults : D → ℕ} where
   -- ---- parts that make no call on a disk
 

@@ -315,7 +315,7 @@ closed_broken (Err x) t m e p broken = p
 -- ---- what a turn leaves of the disks
 
 -- a turn tells that it was halted just where it was
-halted_so : (turn : Result TurnEnd Broken) (t : TurnEnd) → EndsAs turn t → t ≡ ends.Halted → IfOk turn IsWhole → turn ≡ Err reasons.Halted
+pub halted_so : (turn : Result TurnEnd Broken) (t : TurnEnd) → EndsAs turn t → t ≡ ends.Halted → IfOk turn IsWhole → turn ≡ Err reasons.Halted
 halted_so (Ok x) t m e whole = absurd (subst IsWhole (sym m ∙ e) whole)
 halted_so (Err reasons.Halted) t m e whole = refl
 halted_so (Err reasons.Memory) t m e whole = absurd (let other : ends.Memory ≡ ends.Halted = sym m ∙ e in cc)

@@ -6,9 +6,9 @@ use Rattle.queue_rows.specs.Order.{IsFront}
 use Rattle.queue_rows.specs.Turns.{closing_turn, DrainsIn}
 use Rattle.queue_rows.specs.World.{World, read_clock}
 use Rattle.durable_state.specs.Going.{AddsEntries}
-use Rattle.durable_state.specs.Held.{Held}
+use Rattle.durable_state.specs.Held.{Held, HasFailed}
 use Rattle.next_steps.specs.Sound.{IsRunning}
-use Rattle.aq_world.specs.Turning.{IsBrokenOff, IsOfRun, IsUnclosed, IsWhole, reads_clock, turned, turn_end}
+use Rattle.aq_world.specs.Turning.{IsBrokenOff, IsFlushDue, IsOfRun, IsUnclosed, IsWhole, reads_clock, turned, turn_end}
 use Rattle.aq_world.specs.declared.turn_end.TurnEnd.{TurnEnd}
 use Rattle.aq_world.specs.declared.turn_end.TurnEnd.TheVariants.{Done, Halted, Memory}
 
@@ -55,10 +55,12 @@ pub record IsTurn {D C : Type 0} (given : C → Option (List ℕ)) (plan : C →
   pub broken : (IsWhole end → ⊥) → IsBrokenOff actor reading old.held.world new.held.world
   pub front : (IsWhole end → ⊥) → IsFront new.held.world.entries (turned reading actor old.held.world).entries
 
--- The closing turn ended so: with its one reading it was that of the definitions, or was broken off.
+-- The closing turn ended so: with its one reading it was that of the definitions, or was broken off. Where a call on a disk failed in it a flush
+-- was due.
 pub record IsClosing {D C : Type 0} (given : C → Option (List ℕ)) (plan : C → Option (ℕ → ℕ)) (end : TurnEnd) (old new : Clocked D C) : Type 0 where
   pub reading : ℕ
   pub reads : TakesReading given plan old.held.world.readings reading old.clock new.clock
   pub world : end ≡ Done → (steps : ℕ) × DrainsIn (read_clock reading old.held.world) steps × (new.held.world ≡ closing_turn reading steps old.held.world)
   pub front : (IsWhole end → ⊥) → IsUnclosed reading old.held.world new.held.world
   pub run : (IsWhole end → ⊥) → IsOfRun old.held.world new.held.world
+  pub due : end ≡ Halted → (HasFailed old.held → ⊥) → IsFlushDue reading old.held.world new.held.world

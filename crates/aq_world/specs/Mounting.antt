@@ -1,58 +1,76 @@
 -- What becomes of disks whose databases are mounted.
-use Rattle.std.specs.Prelude.{◌≡◌, ℕ, List, Option, Ok, Err}
+use Rattle.std.specs.Prelude.{◌≡◌, ◌⊎◌, ℕ}
 use Rattle.std.specs.Option.{ForSome}
 use Rattle.aq_base.specs.declared.DbId.{DbId}
 use Rattle.aq_base.specs.declared.DbId.TheVariants.{Home, Away}
 use Rattle.aq_disk.specs.Causes.{Rose}
-use Rattle.redo_journal.specs.Journaled.{Journaled}
-use Rattle.redo_journal.specs.Runs.{CrashLeaves}
-use Rattle.redo_records.specs.Recovered.{recovered}
+use Rattle.aq_disk.specs.declared.device.Disk.{Ghosts}
 use Rattle.queue_rows.specs.World.{World}
-use Rattle.queue_rows.specs.declared.tables.Tables.{Tables}
+use Rattle.durable_state.specs.Held.{Held}
+use Rattle.durable_state.specs.LogFault.{LogFault}
+use Rattle.durable_state.specs.LogFault.TheVariants as faults
+use Rattle.durable_state.specs.LogMounting.{IsJustRead, IsMounted, KeepsWritten}
+use Rattle.durable_state.specs.Recovery.{IsDamagedAt, IsRecovered, KeepsRecovered}
 use Rattle.durable_state.specs.Sound.{IsSound}
-use Rattle.durable_state.specs.Logged.{RecoversSame}
-use Rattle.durable_state.specs.Mounting.{IsMountedOn}
 use Rattle.aq_world.specs.declared.mount.MountCause.{MountCause}
 use Rattle.aq_world.specs.declared.mount.MountCause.TheVariants.{Fault, Damaged, Memory}
 
--- where the disk tells bytes, they are recovered to these tables
-abbrev pub RecoversTo : {D : Type 0} → (D → Option (List ℕ)) → D → Tables → Type 0
-RecoversTo seen disk t = ForSome (seen disk) (λ bytes. recovered bytes ≡ Ok t)
-
--- to some tables
-abbrev pub IsRecovered : {D : Type 0} → (D → Option (List ℕ)) → D → Type 0
-IsRecovered seen disk = ForSome (seen disk) (λ bytes. (t : Tables) × (recovered bytes ≡ Ok t))
-
--- they are damaged at this offset
-abbrev pub IsDamagedAt : {D : Type 0} → (D → Option (List ℕ)) → D → ℕ → Type 0
-IsDamagedAt seen disk offset = ForSome (seen disk) (λ bytes. recovered bytes ≡ Err offset)
-
--- the journal of the disk was mounted, and these tables were recovered of it, which are sound
-pub record IsOpened {D : Type 0} (seen : D → Option (List ℕ)) (images : D → ℕ → List ℕ → Type 0) (calls faults : D → ℕ) (disk : D) (t : Tables) (j : Journaled D) : Type 0 where
-  pub mounted : IsMountedOn seen images calls faults disk t j
-  pub recovers : RecoversTo seen disk t
-  pub sound : IsSound t
+-- why the log of that database was not mounted
+abbrev pub cause_of : {D : Type 0} → DbId → LogFault D → MountCause
+cause_of db (faults.Fault disk) = Fault db
+cause_of db (faults.Damaged offset disk) = Damaged db offset
+cause_of db (faults.Memory disk) = Memory
 
 -- both databases of a run began with sound tables
 abbrev pub HasSoundOpenings : World → Type 0
 HasSoundOpenings w = IsSound w.home.opening × IsSound w.away.opening
 
--- of a settled disk, a crash at any moment leaves what is recovered as it was: tables, or a damage
-abbrev pub KeepsRecovered : {D : Type 0} → (D → Option (List ℕ)) → (D → ℕ → List ℕ → Type 0) → (D → ℕ) → D → D → Type 0
-KeepsRecovered seen images calls old new = CrashLeaves seen images calls old new RecoversSame
+module _ {D : Type 0} (device : Ghosts D) where
+  -- both logs of a run were mounted of these disks, over the tables with which its databases begin
+  pub record AreMounted (home away : D) (v : Held D) : Type 0 where
+    pub home_log : IsMounted device home v.world.home.opening v.home
+    pub away_log : IsMounted device away v.world.away.opening v.away
 
--- why the journal of a database was not mounted, of its disk before and after
-abbrev pub IsLogCause : {D : Type 0} → (D → Option (List ℕ)) → (D → ℕ) → DbId → MountCause → D → D → Type 0
-IsLogCause seen faults db (Fault of) old new = (of ≡ db) × Rose (faults old) (faults new)
-IsLogCause seen faults db (Damaged of offset) old new = (of ≡ db) × IsDamagedAt seen old offset × (faults new ≡ faults old)
-IsLogCause seen faults db Memory old new = faults new ≡ faults old
+  -- a disk that was to be mounted lost nothing, and was not written where its journal has the version that is written
+  pub record LosesNothing (old new : D) : Type 0 where
+    pub kept : KeepsRecovered device.seen device.is_image device.calls old new
+    pub written : KeepsWritten device old new
 
--- Why the databases were not mounted, of home's disk and away's before and after. Home comes first: where it is not mounted, away's disk is not
--- looked at.
-abbrev pub HasMountCause : {D : Type 0} → (D → Option (List ℕ)) → (D → ℕ) → MountCause → D → D → D → D → Type 0
-HasMountCause seen faults (Fault Home) home away home_after away_after = Rose (faults home) (faults home_after) × (away_after ≡ away)
-HasMountCause seen faults (Fault Away) home away home_after away_after = IsRecovered seen home × (faults home_after ≡ faults home) × Rose (faults away) (faults away_after)
-HasMountCause seen faults (Damaged Home offset) home away home_after away_after = IsDamagedAt seen home offset × (faults home_after ≡ faults home) × (away_after ≡ away)
-HasMountCause seen faults (Damaged Away offset) home away home_after away_after =
-    IsRecovered seen home × IsDamagedAt seen away offset × (faults home_after ≡ faults home) × (faults away_after ≡ faults away)
-HasMountCause seen faults Memory home away home_after away_after = (faults home_after ≡ faults home) × (faults away_after ≡ faults away)
+  -- the journal of the disk was read
+  pub record WasRead (old new : D) : Type 0 where
+    pub recovered : IsRecovered device.seen old
+    pub fine : device.faults new ≡ device.faults old
+
+  -- it was read and no more
+  pub record WasOnlyRead (old new : D) : Type 0 where
+    pub read : WasRead old new
+    pub just : IsJustRead device old new
+
+  -- ---- in which order it is done
+
+  -- What became of away's disk where home's journal stood in the way: it was not looked at, as home's was being read; or it was read, and then
+  -- home's was written anew.
+  abbrev pub IsBeforeAway : D → D → Type 0
+  IsBeforeAway away away_after = (away_after ≡ away) ⊎ WasOnlyRead away away_after
+
+  -- What became of home's disk where away's journal stood in the way: it was read and no more, as away's was being read; or away's was read, and
+  -- then home's was written anew where its version was an older one, and then away's.
+  abbrev pub IsBehindHome : D → D → D → Type 0
+  IsBehindHome home home_after away = WasOnlyRead home home_after ⊎ (WasRead home home_after × IsRecovered device.seen away)
+
+  -- Why the databases were not mounted, of home's disk and away's before and after. Home's journal is read first, then away's; when both were
+  -- read, home's is written anew where its version is an older one, and then away's. So where away is damaged home is read and no more.
+  abbrev pub HasMountCause : MountCause → D → D → D → D → Type 0
+  HasMountCause (Fault Home) home away home_after away_after = Rose (device.faults home) (device.faults home_after) × IsBeforeAway away away_after
+  HasMountCause (Fault Away) home away home_after away_after = IsBehindHome home home_after away × Rose (device.faults away) (device.faults away_after)
+  HasMountCause (Damaged Home offset) home away home_after away_after =
+      IsDamagedAt device.seen home offset × (device.faults home_after ≡ device.faults home) × IsBeforeAway away away_after
+  HasMountCause (Damaged Away offset) home away home_after away_after =
+      WasRead home home_after × ForSome (device.seen away) (λ _. WasOnlyRead home home_after) × IsDamagedAt device.seen away offset × (device.faults away_after ≡ device.faults away)
+  HasMountCause Memory home away home_after away_after = (device.faults home_after ≡ device.faults home) × (device.faults away_after ≡ device.faults away)
+
+  -- they were not mounted, for this cause, and no disk lost anything
+  pub record IsUnopened (cause : MountCause) (home away home_after away_after : D) : Type 0 where
+    pub cause_is : HasMountCause cause home away home_after away_after
+    pub home_disk : LosesNothing home home_after
+    pub away_disk : LosesNothing away away_after

@@ -4,9 +4,9 @@ use Rattle.queue_rows.specs.Order.{IsFront}
 use Rattle.queue_rows.specs.Session.{Session, Untold}
 use Rattle.queue_rows.specs.Meaning.{Meaning, answers, parks}
 use Rattle.queue_rows.specs.Statements.{meaning, next_statement}
-use Rattle.queue_rows.specs.Sending.{next_sending}
+use Rattle.queue_rows.specs.Sending.{Sending, may_follow, next_sending}
 use Rattle.queue_rows.specs.World.{World, read_clock}
-use Rattle.queue_rows.specs.Turns.{session_turn, timer_turn, propagator_turn, any_live, is_due, caught_up, begun, flushed, drained}
+use Rattle.queue_rows.specs.Turns.{session_turn, timer_turn, propagator_turn, any_live, is_due, is_durable, caught_up, begun, flushed, drained, DrainsIn}
 use Rattle.run_laws.specs.ValidRun.{IsValidWorld}
 use Rattle.run_state.specs.Entries.{IsUntold}
 use Rattle.durable_state.specs.declared.broken.Broken.{Broken}
@@ -135,6 +135,19 @@ IsPartOfStep old new = (new ≡ old) ⊎ IsUntold 66 (caught_up 66 old) new
 -- its draining was, behind so many steps
 abbrev pub IsPartDrained : World → World → Type 0
 IsPartDrained old new = (n : ℕ) × IsPartOfStep (drained n old) new
+
+-- a step of propagation comes next for which a commit must be durable that is not
+pub record IsSendingDue (w : World) : Type 0 where
+  pub sending : Sending
+  pub next : next_sending w ≡ Some sending
+  pub waits : may_follow w sending ≡ false
+  pub undurable : is_durable w ≡ false
+
+-- a flush was due, behind so many steps: what was due was done and a step of propagation waits for it; or all is drained, and a commit is not
+-- durable
+abbrev pub IsFlushDue : ℕ → World → World → Type 0
+IsFlushDue reading old new = (n : ℕ) × (((new ≡ caught_up 66 (drained n (read_clock reading old))) × IsSendingDue new)
+    ⊎ (DrainsIn (read_clock reading old) n × (new ≡ drained n (read_clock reading old)) × (is_durable new ≡ false)))
 
 -- each world to which the draining leads is valid
 abbrev pub IsDrainable : World → Type 0

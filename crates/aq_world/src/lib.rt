@@ -9,7 +9,7 @@ mod turn_end;
 mod turns;
 mod world;
 
-pub use durable_state::Broken;
+pub use durable_state::{Broken, CompactCause};
 pub use mount::{MountCause, MountFault};
 pub use turn_end::TurnEnd;
-pub use world::{Finished, World};
+pub use world::{Compacted, Finished, Uncompacted, World};

@@ -2,16 +2,20 @@
 ghost use Rattle.std.specs.Prelude.{◌≡◌, [], IfOk, IfErr};
 ghost use Rattle.history_laws.specs.ValidWorld.{AreScripts};
 ghost use Rattle.queue_rows.specs.World.{opened};
+ghost use Rattle.durable_state.specs.Compacting.{IsFresh};
 ghost use Rattle.durable_state.specs.Held.{HasFailed};
+ghost use Rattle.durable_state.specs.LogMounting.{IsMounted, IsRead, IsRenewable, disk_in};
+ghost use Rattle.durable_state.specs.Recovery.{RecoversTo};
 ghost use Rattle.durable_state.specs.Survival.{Survives};
-ghost use Rattle.aq_world.specs.Mounting.{HasMountCause, HasSoundOpenings, IsLogCause, IsOpened, KeepsRecovered, RecoversTo};
+ghost use Rattle.aq_world.specs.Mounting.{AreMounted, HasSoundOpenings, IsUnopened, cause_of};
 ghost use Rattle.next_steps.specs.Sound.{IsRunning};
 
 use aq_base::DbId;
 use aq_disk::Disk;
-use durable_state::{CommitLog, DurableState, LogFault, Unmounted};
+use durable_state::{CommitLog, DurableState, LogFault, Unmounted, read_log};
 use payload_records::List;
 use queue_rows::SessionScript;
+use redo_journal::Journal;
 use run_state::PreparedStore;
 use std::alloc::Global;
 
@@ -64,49 +68,96 @@ impl<D> Unopened<D> {
     }
 }
 
-/// The journal of a database, and the tables that its commits lead to.
+/// The journal of a database as it was read, and the tables that its commits lead to.
+type Read<D> = (Journal<D>, PreparedStore);
+
+/// The log of a database, and the tables that its commits lead to.
 type Mounted<D> = (CommitLog<D>, PreparedStore);
 
-/// Mounts the journal of that database. Where it is not mounted, its disk is given back.
-fn mount_log<D: Disk>(alloc: Global, db: DbId, disk: D) -> Result<Mounted<D>, (MountCause, D)>
-    ensures opened { IfOk result (λ m. IsOpened D.seen D.is_image D.calls D.faults disk m.1.tables m.0) }
-    ensures cause { IfErr result (λ e. IsLogCause D.seen D.faults db e.0 disk e.1) }
-    ensures keeps { IfErr result (λ e. KeepsRecovered D.seen D.is_image D.calls disk e.1) }
+/// Why the log of that database was not mounted, and its disk.
+fn cause_of<D>(db: DbId, fault: LogFault<D>) -> (MountCause, D)
+    ensures cause { result.0 ≡ cause_of db fault }
+    ensures disk { result.1 ≡ disk_in fault }
 {
-    match CommitLog::mount(alloc, disk) {
-        Ok(mounted) => Ok(mounted),
-        Err(LogFault::Fault(disk)) => Err((MountCause::Fault(db), disk)),
-        Err(LogFault::Damaged(offset, disk)) => Err((MountCause::Damaged(db, offset), disk)),
-        Err(LogFault::Memory(disk)) => Err((MountCause::Memory, disk)),
+    match fault {
+        LogFault::Fault(disk) => (MountCause::Fault(db), disk),
+        LogFault::Damaged(offset, disk) => (MountCause::Damaged(db, offset), disk),
+        LogFault::Memory(disk) => (MountCause::Memory, disk),
     }
 }
 
-/// Mounts the journals of home and away. Home comes first.
+/// Reads the journals of home and away. Home comes first.
+fn read_logs<D: Disk>(alloc: Global, home: D, away: D) -> Result<(Read<D>, Read<D>), Unopened<D>>
+    ensures home { IfOk result (λ r. IsRead D.Disk home r.0.1.tables r.0.0) }
+    ensures away { IfOk result (λ r. IsRead D.Disk away r.1.1.tables r.1.0) }
+    ensures unopened { IfErr result (λ e. IsUnopened D.Disk e.cause home away e.home e.away) }
+{
+    let home = match read_log(alloc, home) {
+        Ok(read) => read,
+        Err(fault) => {
+            let (cause, home) = cause_of(DbId::Home, fault);
+            return Err(Unopened { cause, home, away });
+        }
+    };
+    match read_log(alloc, away) {
+        Ok(away) => Ok((home, away)),
+        Err(fault) => {
+            let (cause, away) = cause_of(DbId::Away, fault);
+            let home = home.0.into_disk();
+            Err(Unopened { cause, home, away })
+        }
+    }
+}
+
+/// Writes the journals anew whose version is an older one, and mounts both. Home comes first.
+fn renew_logs<D: Disk>(
+    alloc: Global,
+    home: Read<D>,
+    away: Read<D>,
+) -> Result<(Mounted<D>, Mounted<D>), Unopened<D>>
+    requires home { IsRenewable home.1.tables home.0 }
+    requires away { IsRenewable away.1.tables away.0 }
+
+    // Of the disks of which they were read.
+    ensures mounted { IfOk result (λ m. (home_disk away_disk : D)
+        → IsRead D.Disk home_disk home.1.tables home.0 → IsRead D.Disk away_disk away.1.tables away.0
+        → IsMounted D.Disk home_disk m.0.1.tables m.0.0 × IsMounted D.Disk away_disk m.1.1.tables m.1.0) }
+    ensures unopened { IfErr result (λ e. (home_disk away_disk : D)
+        → IsRead D.Disk home_disk home.1.tables home.0 → IsRead D.Disk away_disk away.1.tables away.0
+        → IsUnopened D.Disk e.cause home_disk away_disk e.home e.away) }
+{
+    let (home, home_store) = home;
+    let (away, away_store) = away;
+    let home = match CommitLog::renew(alloc, home, home_store) {
+        Ok(mounted) => mounted,
+        Err(fault) => {
+            let (cause, home) = cause_of(DbId::Home, fault);
+            let away = away.into_disk();
+            return Err(Unopened { cause, home, away });
+        }
+    };
+    match CommitLog::renew(alloc, away, away_store) {
+        Ok(away) => Ok((home, away)),
+        Err(fault) => {
+            let (cause, away) = cause_of(DbId::Away, fault);
+            let home = home.0.into_disk();
+            Err(Unopened { cause, home, away })
+        }
+    }
+}
+
+/// Mounts the journals of home and away: both are read before either is written anew.
 fn mount_logs<D: Disk>(
     alloc: Global,
     home: D,
     away: D,
 ) -> Result<(Mounted<D>, Mounted<D>), Unopened<D>>
-    ensures home { IfOk result (λ m.
-        IsOpened D.seen D.is_image D.calls D.faults home m.0.1.tables m.0.0) }
-    ensures away { IfOk result (λ m.
-        IsOpened D.seen D.is_image D.calls D.faults away m.1.1.tables m.1.0) }
-    ensures cause { IfErr result (λ e. HasMountCause D.seen D.faults e.cause home away e.home e.away) }
-    ensures home_keeps { IfErr result (λ e. KeepsRecovered D.seen D.is_image D.calls home e.home) }
-    ensures away_keeps { IfErr result (λ e. KeepsRecovered D.seen D.is_image D.calls away e.away) }
+    ensures home { IfOk result (λ m. IsMounted D.Disk home m.0.1.tables m.0.0) }
+    ensures away { IfOk result (λ m. IsMounted D.Disk away m.1.1.tables m.1.0) }
+    ensures unopened { IfErr result (λ e. IsUnopened D.Disk e.cause home away e.home e.away) }
 {
-    let home = match mount_log(alloc, DbId::Home, home) {
-        Ok(mounted) => mounted,
-        Err((cause, home)) => return Err(Unopened { cause, home, away }),
-    };
-    match mount_log(alloc, DbId::Away, away) {
-        Ok(away) => Ok((home, away)),
-        Err((cause, away)) => Err(Unopened {
-            cause,
-            home: home.0.into_disk(),
-            away,
-        }),
-    }
+    let (home, away) = read_logs(alloc, home, away)?;
+    renew_logs(alloc, home, away)
 }
 
 /// The state of a run of these scripts' sessions, over the databases that are recovered of two disks. A disk that has none yet has one
@@ -128,9 +179,9 @@ pub fn open<D: Disk>(
     ensures begun { IfOk result
         (Survives D.seen D.is_image D.calls D.faults (record { home = home; away = away })) }
     ensures unfailed { IfOk result (λ w. HasFailed w → ⊥) }
-    ensures cause { IfErr result (λ e. HasMountCause D.seen D.faults e.cause home away e.home e.away) }
-    ensures home_keeps { IfErr result (λ e. KeepsRecovered D.seen D.is_image D.calls home e.home) }
-    ensures away_keeps { IfErr result (λ e. KeepsRecovered D.seen D.is_image D.calls away e.away) }
+    ensures mounted { IfOk result (AreMounted D.Disk home away) }
+    ensures fresh { IfOk result IsFresh }
+    ensures unopened { IfErr result (λ e. IsUnopened D.Disk e.cause home away e.home e.away) }
 {
     let (home, away) = mount_logs(alloc, home, away)?;
     match DurableState::mount(alloc, scripts, home, away) {

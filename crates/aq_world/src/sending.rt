@@ -1,12 +1,14 @@
 // A step of propagation is made, when what must be durable before it is.
-ghost use Rattle.std.specs.Prelude.{◌≡◌, IfOk, OnOk, OnErr, is_some};
-ghost use Rattle.queue_rows.specs.Sending.{next_sending, sent};
+ghost use Rattle.std.specs.Prelude.{◌≡◌, Err, IfOk, IfErr, OnOk, OnErr, is_some, false};
+ghost use Rattle.queue_rows.specs.Sending.{may_follow, next_sending, sent};
 ghost use Rattle.queue_rows.specs.Order.{IsFront};
-ghost use Rattle.queue_rows.specs.Turns.{propagated};
+ghost use Rattle.queue_rows.specs.Turns.{is_durable, propagated};
 ghost use Rattle.run_laws.specs.ValidRun.{IsValidWorld};
 ghost use Rattle.run_state.specs.Entries.{IsUntold};
 ghost use Rattle.next_steps.specs.Sendings.{sending_meant, made_ready, HasIds};
+ghost use Rattle.durable_state.specs.Held.{HasFailed};
 ghost use Rattle.aq_world.specs.Going.{GoesAs, GoesQuietly};
+ghost use Rattle.aq_world.specs.Turning.{IsSendingDue};
 
 use aq_disk::Disk;
 use durable_state::{Broken, DurableState};
@@ -22,6 +24,9 @@ fn make_ready<D: Disk>(
     ensures ok { OnOk result
         (state.new.world ≡ made_ready actor (sending_meant sending.now) state.old.world) }
     ensures err { OnErr result (state.new.world ≡ state.old.world) }
+    ensures due { IfErr result (λ why. (HasFailed state.old → ⊥)
+        → (why ≡ Broken.Halted) × (may_follow state.old.world (sending_meant sending.now) ≡ false)
+        × (is_durable state.old.world ≡ false)) }
     ensures disks { GoesAs actor D.seen D.is_image D.calls D.faults result state.old state.new }
 {
     if may_follow(state.run(), sending) {
@@ -59,6 +64,8 @@ pub fn propagate<D: Disk>(state: &mut DurableState<D>, actor: u32) -> Result<boo
     ensures err { OnErr result (IsUntold actor state.old.world state.new.world) }
     ensures front { OnErr result
         (IsFront state.new.world.entries (propagated actor state.old.world).entries) }
+    ensures due { result ≡ Err Broken.Halted → (HasFailed state.old → ⊥)
+        → IsSendingDue state.old.world × (state.new.world ≡ state.old.world) }
     ensures disks { GoesAs actor D.seen D.is_image D.calls D.faults result state.old state.new }
 {
     let Some(sending) = next_sending(state.run())? else {

@@ -1,14 +1,14 @@
 // The turns of the sessions, the timer, the propagator and the closing turn.
 ghost use Rattle.std.specs.Prelude.{◌≡◌, ◌<◌, ◌≤◌, ◌^◌, ℕ, Err, not, true, length, OnOk, OnErr, IfOk, IfErr, slice_get};
 ghost use Rattle.queue_rows.specs.Order.{IsFront};
-ghost use Rattle.queue_rows.specs.Turns.{closing_turn, drained, drained_once, is_still, propagator_turn, session_turn, timer_turn, DrainsIn};
+ghost use Rattle.queue_rows.specs.Turns.{caught_up, closing_turn, drained, drained_once, is_still, propagator_turn, session_turn, timer_turn, DrainsIn};
 ghost use Rattle.run_laws.specs.ValidRun.{IsValidWorld};
 ghost use Rattle.queue_rows.specs.World.{read_clock};
 ghost use Rattle.durable_state.specs.Going.{Goes};
 ghost use Rattle.durable_state.specs.Held.{HasFailed};
 ghost use Rattle.aq_world.specs.Going.{GoesAs, Stops};
 ghost use Rattle.next_steps.specs.Sound.{IsSound};
-ghost use Rattle.aq_world.specs.Turning.{IsActor, IsBrokenOff, IsCalling, IsDrainable, IsOwed, IsPartDrained, IsPartOfStep, IsUnclosed, IsUndone};
+ghost use Rattle.aq_world.specs.Turning.{IsActor, IsBrokenOff, IsCalling, IsDrainable, IsFlushDue, IsOwed, IsPartDrained, IsPartOfStep, IsSendingDue, IsUnclosed, IsUndone};
 ghost use Rattle.aq_world.specs.Turning.{background_end, is_owed, reads_clock, session_end, turn_end, turned};
 ghost use Rattle.aq_world.specs.declared.turn_end.TurnEnd.TheVariants.{Done};
 
@@ -257,6 +257,8 @@ fn drain_once<D: Disk>(state: &mut DurableState<D>) -> Result<bool, Broken>
     ensures room { OnOk result (length state.new.world.entries < 2 ^ 64) }
     ensures err { OnErr result (IsPartOfStep state.old.world state.new.world) }
     ensures front { OnErr result (IsFront state.new.world.entries (drained_once state.old.world).entries) }
+    ensures due { result ≡ Err Broken.Halted → (HasFailed state.old → ⊥)
+        → (state.new.world ≡ caught_up 66 state.old.world) × IsSendingDue state.new.world }
     ensures disks { GoesAs 66 D.seen D.is_image D.calls D.faults result state.old state.new }
 {
     let before = state.run().entry_count();
@@ -273,6 +275,8 @@ fn drain<D: Disk>(state: &mut DurableState<D>) -> Result<(), Broken>
     ensures err { OnErr result (IsPartDrained state.old.world state.new.world) }
     ensures front { OnErr result
         ((steps : ℕ) × IsFront state.new.world.entries (drained steps state.old.world).entries) }
+    ensures due { result ≡ Err Broken.Halted → (HasFailed state.old → ⊥)
+        → (steps : ℕ) × (state.new.world ≡ caught_up 66 (drained steps state.old.world)) × IsSendingDue state.new.world }
     ensures disks { GoesAs 66 D.seen D.is_image D.calls D.faults result state.old state.new }
 {
     // Each step that does something adds an entry, and a list has room for so many alone.
@@ -295,6 +299,8 @@ pub fn closing_turn<D: Disk>(state: &mut DurableState<D>, reading: u64) -> Resul
     ensures end { IfOk result (λ end. end ≡ Done) }
     ensures err { OnErr result (IsPartDrained (read_clock reading state.old.world) state.new.world) }
     ensures front { OnErr result (IsUnclosed reading state.old.world state.new.world) }
+    ensures due { result ≡ Err Broken.Halted → (HasFailed state.old → ⊥)
+        → IsFlushDue reading state.old.world state.new.world }
     ensures disks { GoesAs 66 D.seen D.is_image D.calls D.faults result state.old state.new }
     ensures stops { Stops (result ≡ Err Broken.Halted) state.old state.new }
 {

@@ -7,12 +7,14 @@ ghost use Rattle.history_laws.specs.ValidWorld.{AreScripts};
 ghost use Rattle.queue_rows.specs.Turns.{any_live};
 ghost use Rattle.run_state.specs.Entries.{BeginsAs};
 ghost use Rattle.durable_state.specs.Brief.{AreBrief};
+ghost use Rattle.durable_state.specs.Compacting.{AreCompacted, HasCompactCause, IsFresh, KeepBoth};
 ghost use Rattle.durable_state.specs.Going.{Goes};
 ghost use Rattle.durable_state.specs.Held.{HasFailed};
+ghost use Rattle.durable_state.specs.Recovery.{RecoversTo};
 ghost use Rattle.durable_state.specs.Survival.{Survives};
 ghost use Rattle.aq_world.specs.Clocked.{Grows, IsClocked, IsClosing, IsTurn};
 ghost use Rattle.aq_world.specs.Going.{Stops};
-ghost use Rattle.aq_world.specs.Mounting.{HasMountCause, HasSoundOpenings, KeepsRecovered, RecoversTo};
+ghost use Rattle.aq_world.specs.Mounting.{AreMounted, HasSoundOpenings, IsUnopened};
 ghost use Rattle.aq_world.specs.Turning.{IsActor, broken_end, is_owed};
 ghost use Rattle.aq_world.specs.declared.turn_end.TurnEnd.TheVariants.{Done, Halted, Memory};
 
@@ -22,7 +24,7 @@ use crate::turns::{closing_turn, reads_clock, turn};
 use aq_base::DbId;
 use aq_clock::{Clock, StepClock};
 use aq_disk::Disk;
-use durable_state::{Broken, DurableState};
+use durable_state::{Broken, CompactCause, DurableState};
 use payload_records::List;
 use queue_rows::{History, SessionScript, Tables};
 use std::alloc::Global;
@@ -61,6 +63,34 @@ pub struct Finished<D, C> {
     /// Away's disk.
     pub away: D,
     /// The clock.
+    pub clock: C,
+}
+
+/// The disks of databases whose journals were compacted.
+#[derive(Drop)]
+pub struct Compacted<D, C> {
+    /// Home's disk.
+    pub home: D,
+    /// Away's disk.
+    pub away: D,
+    /// The clock, of which no reading was taken.
+    pub clock: C,
+    /// How many frames home's journal had before.
+    pub home_frames: u64,
+    /// How many frames away's journal had before.
+    pub away_frames: u64,
+}
+
+/// Databases whose journals were not both compacted.
+#[derive(Drop)]
+pub struct Uncompacted<D, C> {
+    /// Why they were not.
+    pub cause: CompactCause,
+    /// Home's disk.
+    pub home: D,
+    /// Away's disk.
+    pub away: D,
+    /// The clock, of which no reading was taken.
     pub clock: C,
 }
 
@@ -106,9 +136,9 @@ impl<D: Disk, C: Clock> World<D, C> {
         ensures begun { IfOk result (λ w.
             Survives D.seen D.is_image D.calls D.faults (record { home = home; away = away }) w.held) }
         ensures unfailed { IfOk result (λ w. HasFailed w.held → ⊥) }
-        ensures cause { IfErr result (λ e. HasMountCause D.seen D.faults e.cause home away e.home e.away) }
-        ensures home_keeps { IfErr result (λ e. KeepsRecovered D.seen D.is_image D.calls home e.home) }
-        ensures away_keeps { IfErr result (λ e. KeepsRecovered D.seen D.is_image D.calls away e.away) }
+        ensures mounted { IfOk result (λ w. AreMounted D.Disk home away w.held) }
+        ensures fresh { IfOk result (λ w. IsFresh w.held) }
+        ensures unopened { IfErr result (λ e. IsUnopened D.Disk e.cause home away e.home e.away) }
         ensures clock { IfOk result (λ w. w.clock ≡ clock) }
         ensures unread { IfErr result (λ e. e.clock ≡ clock) }
     {
@@ -127,6 +157,9 @@ impl<D: Disk, C: Clock> World<D, C> {
         requires readings { self.old.held.world.readings < 2 ^ 63 }
         ensures turn { IsTurn C.given C.plan actor result self.old self.new }
         ensures grows { Grows actor self.old.held self.new.held }
+
+        // Each flush makes few calls on the disks.
+        ensures brief { AreBrief self.old.held.entries → AreBrief self.new.held.entries }
 
         // A session that is to be told a reply is told it without memory.
         ensures telling { is_owed (slice_get self.old.held.world.sessions actor) ≡ true
@@ -151,6 +184,9 @@ impl<D: Disk, C: Clock> World<D, C> {
         ensures known { (result ≡ Done) ⊎ ((result ≡ Memory) ⊎ (result ≡ Halted)) }
         ensures turn { IsClosing C.given C.plan result self.old self.new }
         ensures grows { Grows 66 self.old.held self.new.held }
+
+        // Each flush makes few calls on the disks.
+        ensures brief { AreBrief self.old.held.entries → AreBrief self.new.held.entries }
 
         // The disks go on so that a crash leaves what it is to leave. A failure, now or before, is told, and behind it nothing is entered.
         ensures disks { Goes D.seen D.is_image D.calls D.faults self.old.held self.new.held }
@@ -208,6 +244,44 @@ impl<D: Disk, C: Clock> World<D, C> {
         self.state.run().scripts()
     }
 
+    /// Writes the journals of both databases anew, home's and then away's, each with the one commit that leads to its tables. Nothing may have
+    /// been done since they were mounted. At each call a crash leaves the tables of both, whatever is answered.
+    pub fn compact(self) -> Result<Compacted<D, C>, Uncompacted<D, C>>
+        requires { IsFresh self.held }
+        ensures compacted { IfOk result (λ c. AreCompacted D.Disk self.held c.home c.away) }
+        ensures frames { IfOk result (λ c. (c.home_frames ≡ self.held.home.count)
+            × (c.away_frames ≡ self.held.away.count)) }
+        ensures keep { MatchResult result (λ c. KeepBoth D.Disk self.held c.home c.away)
+            (λ e. KeepBoth D.Disk self.held e.home e.away) }
+        ensures cause { IfErr result (λ e. HasCompactCause D.Disk
+            e.cause self.held.home.disk self.held.away.disk e.home e.away) }
+        ensures clock { MatchResult result (λ c. c.clock ≡ self.clock) (λ e. e.clock ≡ self.clock) }
+    {
+        let World { state, clock } = self;
+        match state.compact() {
+            Ok(
+                durable_state::Compacted {
+                    home,
+                    away,
+                    home_frames,
+                    away_frames,
+                },
+            ) => Ok(Compacted {
+                home,
+                away,
+                clock,
+                home_frames,
+                away_frames,
+            }),
+            Err(durable_state::Uncompacted { cause, home, away }) => Err(Uncompacted {
+                cause,
+                home,
+                away,
+                clock,
+            }),
+        }
+    }
+
     /// The history of the run, both disks and the clock.
     pub fn finish(self) -> Finished<D, C>
         ensures entries { result.history.entries ≡ self.held.entries }
@@ -255,9 +329,9 @@ impl<D: Disk> World<D, StepClock> {
         ensures begun { IfOk result (λ w.
             Survives D.seen D.is_image D.calls D.faults (record { home = home; away = away }) w.held) }
         ensures unfailed { IfOk result (λ w. HasFailed w.held → ⊥) }
-        ensures cause { IfErr result (λ e. HasMountCause D.seen D.faults e.cause home away e.home e.away) }
-        ensures home_keeps { IfErr result (λ e. KeepsRecovered D.seen D.is_image D.calls home e.home) }
-        ensures away_keeps { IfErr result (λ e. KeepsRecovered D.seen D.is_image D.calls away e.away) }
+        ensures mounted { IfOk result (λ w. AreMounted D.Disk home away w.held) }
+        ensures fresh { IfOk result (λ w. IsFresh w.held) }
+        ensures unopened { IfErr result (λ e. IsUnopened D.Disk e.cause home away e.home e.away) }
         ensures plan { IfOk result (λ w.
             ⟦<StepClock as Clock>⟧.plan w.clock ≡ Some (step_reading w.held.world.opening)) }
         ensures given { IfOk result (λ w. ⟦<StepClock as Clock>⟧.given w.clock ≡ Some []) }

@@ -1,14 +1,23 @@
-use Rattle.std.proofs.Common.{sym, subst}
-use Rattle.aq_world.specs.Mounting.{HasMountCause, KeepsRecovered}
-use Rattle.aq_world.proofs.Mounting.{away_cause, keeps_opened}
+use Rattle.redo_journal.proofs.Moments.{if_ok_more}
+use Rattle.durable_state.specs.LogMounting.{IsMounted, IsRead}
+use Rattle.aq_world.specs.Mounting.{IsUnopened}
+use Rattle.aq_world.proofs.Mounting.{if_err_more, renewable}
 use Rattle.aq_world.proofs.mount.mount_logs.Goals as goal
 
-pub returns-in-Err-mount_log-clause-cause : goal.returns-in-Err-mount_log-clause-cause
-returns-in-Err-mount_log-clause-cause g c =
-    let cause = c.in-Err-mount_log.cause in
-    subst (λ d. HasMountCause g.D.Disk.seen g.D.Disk.faults cause c.args.home c.args.away d c.in-Err-mount_log.away) (sym c.into_disk.ensures)
-    (away_cause g.D.Disk.seen g.D.Disk.is_image g.D.Disk.calls g.D.Disk.faults cause c.args.home c.args.away c.in-Err-mount_log.away _ _ c.in-Ok.ensures.opened c.in-Err-mount_log.ensures.cause)
+pub renew_logs-requires-clause-home : goal.renew_logs-requires-clause-home
+renew_logs-requires-clause-home g c = renewable g.D.Disk c.args.home _ _ c.in_ok-home.ensures.home
 
-pub returns-in-Err-mount_log-clause-home_keeps : goal.returns-in-Err-mount_log-clause-home_keeps
-returns-in-Err-mount_log-clause-home_keeps g c =
-    subst (λ d. KeepsRecovered g.D.Disk.seen g.D.Disk.is_image g.D.Disk.calls c.args.home d) (sym c.into_disk.ensures) (keeps_opened g.D.Disk.seen g.D.Disk.is_image g.D.Disk.calls g.D.Disk.faults c.args.home _ _ c.in-Ok.ensures.opened)
+pub renew_logs-requires-clause-away : goal.renew_logs-requires-clause-away
+renew_logs-requires-clause-away g c = renewable g.D.Disk c.args.away _ _ c.in_ok-home.ensures.away
+
+pub returns-clause-home : goal.returns-clause-home
+returns-clause-home g c =
+    if_ok_more c.renew_logs.result _ (λ m. IsMounted g.D.Disk c.args.home m.0.1.tables m.0.0) (λ m mounted. (mounted c.args.home c.args.away c.in_ok-home.ensures.home c.in_ok-home.ensures.away).0) c.renew_logs.ensures.mounted
+
+pub returns-clause-away : goal.returns-clause-away
+returns-clause-away g c =
+    if_ok_more c.renew_logs.result _ (λ m. IsMounted g.D.Disk c.args.away m.1.1.tables m.1.0) (λ m mounted. (mounted c.args.home c.args.away c.in_ok-home.ensures.home c.in_ok-home.ensures.away).1) c.renew_logs.ensures.mounted
+
+pub returns-clause-unopened : goal.returns-clause-unopened
+returns-clause-unopened g c =
+    if_err_more c.renew_logs.result _ (λ e. IsUnopened g.D.Disk e.cause c.args.home c.args.away e.home e.away) (λ e refused. refused c.args.home c.args.away c.in_ok-home.ensures.home c.in_ok-home.ensures.away) c.renew_logs.ensures.unopened

@@ -5,7 +5,7 @@ use Rattle.queue_rows.specs.Turns.{propagated}
 use Rattle.next_steps.specs.Sendings.{sending_meant}
 use Rattle.next_steps.proofs.Sendings.{ready_front, sent_whole}
 use Rattle.aq_world.proofs.Turning.{at_err}
-use Rattle.aq_world.proofs.Goings.{as_memory, as_ok, as_passed, quiet_ok, quiet_on, quiet_same}
+use Rattle.aq_world.proofs.Goings.{as_memory, as_ok, as_passed, never_halted, quiet_ok, quiet_on, quiet_same}
 use Rattle.aq_world.proofs.sending.propagate.Goals as goal
 
 pub returns-in_err-send-clause-front : goal.returns-in_err-send-clause-front
@@ -35,3 +35,16 @@ returns-clause-disks g c = as_ok _ _ _ (quiet_on _ _ _ (quiet_ok c.make_ready.re
 
 pub returns-in_default-clause-disks : goal.returns-in_default-clause-disks
 returns-in_default-clause-disks g c = as_ok _ _ _ (quiet_same _)
+
+pub returns-in_err-sending-clause-due : goal.returns-in_err-sending-clause-due
+returns-in_err-sending-clause-due g c halted = never_halted c.from_residual.result c.from_residual.ensures.1 halted
+
+pub returns-in_err-make_ready-clause-due : goal.returns-in_err-make_ready-clause-due
+returns-in_err-make_ready-clause-due g c halted fine =
+    let w = c.args.state.now.world in
+    let next : next_sending w ≡ Some (sending_meant c.in-Some.sending) = ap next_sending (sym c.run.ensures) ∙ sym c.in_ok-sending.ensures ∙ ap (option_map sending_meant) c.in-Some.is in
+    let due = c.in_err-make_ready.ensures.due fine in
+    (record { sending = sending_meant c.in-Some.sending; next = next; waits = due.1; undurable = due.2 }, c.in_err-make_ready.ensures.err)
+
+pub returns-in_err-send-clause-due : goal.returns-in_err-send-clause-due
+returns-in_err-send-clause-due g c halted = never_halted c.from_residual-in_err-send.result c.from_residual-in_err-send.ensures.1 halted

@@ -1,8 +1,9 @@
-use Rattle.std.proofs.Common.{refl}
+use Rattle.std.proofs.Common.{◌∙◌, inl, inr, refl, ap, subst}
+use Rattle.queue_rows.specs.Turns.{caught_up, drained, is_durable, DrainsIn}
 use Rattle.durable_state.proofs.Growing.{adds_none}
 use Rattle.aq_world.proofs.Halting.{reading_part, reading_unclosed}
 use Rattle.aq_world.proofs.Turning.{at_err, closed_so, unclosed_at_flush}
-use Rattle.aq_world.proofs.Goings.{as_failed, as_on, as_ok, as_passed, quiet_by, quiet_ok, quiet_on}
+use Rattle.aq_world.proofs.Goings.{as_failed, as_on, as_ok, as_passed, passed_halted, quiet_by, quiet_ok, quiet_on}
 use Rattle.aq_world.proofs.turns.closing_turn.Goals as goal
 
 pub returns-then-has_failed-clause-err : goal.returns-then-has_failed-clause-err
@@ -41,3 +42,19 @@ returns-in_err-flush-clause-disks g c = as_on _ _ _ _ (quiet_on _ _ _ (quiet_by 
 
 pub returns-clause-disks : goal.returns-clause-disks
 returns-clause-disks g c = as_ok _ _ _ (quiet_on _ _ _ (quiet_on _ _ _ (quiet_by _ _ c.read_clock.ensures.disks (adds_none _ _ c.read_clock.ensures.entries) c.read_clock.ensures.fine) (quiet_ok c.drain.result _ _ _ c.in_ok-drain.was c.drain.ensures.disks)) (quiet_by _ _ c.flush.ensures.disks c.flush.ensures.adds (λ failed. absurd (c.in_ok-flush.ensures.unfailed failed))))
+
+pub returns-then-has_failed-clause-due : goal.returns-then-has_failed-clause-due
+returns-then-has_failed-clause-due g c halted fine = absurd (fine (c.read_clock.ensures.fine (c.has_failed.ensures.failed c.if-has_failed.true)))
+
+pub returns-in_err-drain-clause-due : goal.returns-in_err-drain-clause-due
+returns-in_err-drain-clause-due g c halted fine =
+    let before = passed_halted c.drain.result _ c.from_residual.result c.in_err-drain.was c.from_residual.ensures.1 halted in
+    let due = c.drain.ensures.due before (λ failed. fine (c.read_clock.ensures.fine failed)) in
+    (due.0, inl (due.1 ∙ ap (λ w. caught_up 66 (drained due.0 w)) c.read_clock.ensures.world, due.2))
+
+pub returns-in_err-flush-clause-due : goal.returns-in_err-flush-clause-due
+returns-in_err-flush-clause-due g c halted fine =
+    let n = c.in_ok-drain.ensures.ok in
+    let still = (quiet_ok c.drain.result _ _ _ c.in_ok-drain.was c.drain.ensures.disks).fine in
+    let undurable = c.in_err-flush.ensures.due (λ failed. fine (c.read_clock.ensures.fine (still failed))) in
+    (n.0, inr (subst (λ w. DrainsIn w n.0) c.read_clock.ensures.world n.1, c.in_err-flush.ensures.err ∙ n.2 ∙ ap (drained n.0) c.read_clock.ensures.world, ap is_durable c.in_err-flush.ensures.err ∙ undurable))

@@ -1,7 +1,8 @@
-use Rattle.std.proofs.Common.{suc, sym, subst}
+use Rattle.std.proofs.Common.{◌∙◌, ap, suc, sym, subst}
+use Rattle.queue_rows.specs.Turns.{caught_up}
 use Rattle.run_laws.specs.ValidRun.{IsValidWorld}
 use Rattle.aq_world.proofs.Turning.{at_err, none_drained, drained_more, drained_front, drains_so, less_room}
-use Rattle.aq_world.proofs.Goings.{as_ok, as_on, as_passed, quiet_ok, quiet_on, quiet_same}
+use Rattle.aq_world.proofs.Goings.{as_ok, as_on, as_passed, passed_halted, quiet_ok, quiet_on, quiet_same}
 use Rattle.aq_world.proofs.turns.drain.Goals as goal
 
 pub loop-more-init : goal.loop-more-init
@@ -27,3 +28,10 @@ returns-in_err-more-clause-disks g c = let n = c.loop-more.invariant in as_on c.
 
 pub returns-then-not-more-clause-disks : goal.returns-then-not-more-clause-disks
 returns-then-not-more-clause-disks g c = let n = c.loop-more.invariant in as_ok _ _ _ (quiet_on _ _ _ n.2 (quiet_ok c.drain_once.result _ _ _ c.in_ok-more.was c.drain_once.ensures.disks))
+
+pub returns-in_err-more-clause-due : goal.returns-in_err-more-clause-due
+returns-in_err-more-clause-due g c halted fine =
+    let n = c.loop-more.invariant in
+    let before = passed_halted c.drain_once.result _ c.from_residual.result c.in_err-more.was c.from_residual.ensures.1 halted in
+    let due = c.drain_once.ensures.due before (λ failed. fine (n.2.fine failed)) in
+    (n.0, due.0 ∙ ap (caught_up 66) n.1, due.1)

@@ -1,8 +1,9 @@
 use Rattle.std.proofs.Common.{◌≡◌, ◌≤◌, ◌^◌, sym, subst}
+use Rattle.durable_state.specs.Brief.{AreBrief}
 use Rattle.durable_state.specs.Going.{Goes}
 use Rattle.aq_world.specs.Clocked.{Grows, IsClosing}
 use Rattle.aq_world.specs.Going.{Stops}
-use Rattle.aq_world.proofs.Running.{drainable, closing_leaves, closing_of_run, part_of_run, closed_known, closed_world, closed_broken, turn_halted, turn_fine, turn_stops, if_closed, takes_reading, told_count}
+use Rattle.aq_world.proofs.Running.{drainable, closing_leaves, closing_of_run, part_of_run, closed_known, closed_world, closed_broken, halted_so, turn_halted, turn_fine, turn_stops, if_closed, takes_reading, told_count}
 use Rattle.aq_world.specs.declared.turn_end.TurnEnd.TheVariants.{Halted}
 use Rattle.aq_world.proofs.world.World.closing.Goals as goal
 
@@ -29,6 +30,7 @@ returns-clause-turn g c =
       world = λ done. closed_world c.closing_turn.result c.end_of.result c.end_of.ensures c.closing_turn.ensures.ok done;
       front = λ broken. closed_broken c.closing_turn.result c.end_of.result c.end_of.ensures c.closing_turn.ensures.end c.closing_turn.ensures.front broken;
       run = λ broken. part_of_run reading w c.closing_turn.new.state.world (closed_broken c.closing_turn.result c.end_of.result c.end_of.ensures c.closing_turn.ensures.end c.closing_turn.ensures.err broken);
+      due = λ halted fine. c.closing_turn.ensures.due (halted_so c.closing_turn.result c.end_of.result c.end_of.ensures halted (if_closed c.closing_turn.result c.closing_turn.ensures.end)) fine;
     })
 
 pub returns-clause-disks : goal.returns-clause-disks
@@ -50,3 +52,6 @@ pub returns-clause-grows : goal.returns-clause-grows
 returns-clause-grows g c =
     subst (λ v. Grows 66 v.held c.closing_turn.new.state) c.self.view_is
     (record { adds = c.closing_turn.ensures.disks.adds; run = closing_of_run c.closing_turn.result c.now-reading.result c.self.inside.state.world c.closing_turn.new.state.world c.closing_turn.ensures.ok c.closing_turn.ensures.err })
+
+pub returns-clause-brief : goal.returns-clause-brief
+returns-clause-brief g c = subst (λ v. AreBrief v.held.entries → AreBrief c.closing_turn.new.state.entries) c.self.view_is c.closing_turn.ensures.disks.adds.brief

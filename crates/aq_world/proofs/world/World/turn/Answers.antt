@@ -1,5 +1,6 @@
 use Rattle.std.proofs.Common.{◌≡◌, ◌<◌, ◌^◌, arith, true, sym, ap, subst, ◌∙◌}
 use Rattle.std.specs.Prelude.{slice_get}
+use Rattle.durable_state.specs.Brief.{AreBrief}
 use Rattle.durable_state.specs.Going.{Goes}
 use Rattle.aq_world.specs.Clocked.{Grows, IsTurn}
 use Rattle.aq_world.specs.Going.{Stops}
@@ -62,3 +63,6 @@ pub returns-clause-telling : goal.returns-clause-telling
 returns-clause-telling g c owed =
     let here : is_owed (slice_get c.self.inside.state.world.sessions c.args.actor) ≡ true = subst (λ v. is_owed (slice_get v.held.world.sessions c.args.actor) ≡ true) (sym c.self.view_is) owed in
     turn_told c.turn.result c.end_of.result c.read_if-reading.result c.args.actor c.self.inside.state.world c.end_of.ensures c.turn.ensures.end (c.turn.ensures.telling here) (running_few c.self.invariant.readings c.self.inside.state.world c.self.invariant.running) here
+
+pub returns-clause-brief : goal.returns-clause-brief
+returns-clause-brief g c = subst (λ v. AreBrief v.held.entries → AreBrief c.turn.new.state.entries) c.self.view_is c.turn.ensures.disks.adds.brief
