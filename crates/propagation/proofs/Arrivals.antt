@@ -1,37 +1,52 @@
--- How an arrival ends that is copied, and one that fails.
-use Rattle.std.proofs.Common.{◌≡◌, ℕ, List, [], ◌∷◌, false, Some, None, Result, Ok, Err, IfOk, sym, ◌∙◌, ap, if◌then◌else◌}
+-- What goes in at a destination, and how an arrival ends by what its destination answers.
+use Rattle.std.proofs.Common.{◌≡◌, ℕ, List, [], ◌∷◌, Bool, true, false, Option, Some, None, Result, Ok, Err, IfOk, refl, ap, sym, ◌∙◌, if◌then◌else◌}
 use Rattle.queue_rows.specs.Rows.{table_of}
-use Rattle.queue_rows.specs.Propagating.{Parcel, Arriving, arriving_by, arriving, cause_of, copy_of, has_seen, taken_in, taken_in_by}
+use Rattle.queue_rows.specs.Propagating.{Parcel, Dispatch, Arriving, arriving_by, arriving, cause_of, has_seen, taken_in, taken_in_by, delayed, is_last_failure}
 use Rattle.queue_rows.specs.declared.tables.Tables.{Tables}
 use Rattle.queue_rows.specs.declared.rows.TableRow.{TableRow}
-use Rattle.queue_rows.specs.declared.rows.ScheduleRow.{ScheduleRow}
 use Rattle.queue_rows.specs.declared.history.SlotRef.{SlotRef}
 use Rattle.queue_rows.specs.declared.history.Cause.{Cause}
-use Rattle.queue_rows.specs.declared.history.Arrival.TheVariants.{Copied, Seen}
+use Rattle.queue_rows.specs.declared.history.Arrival.TheVariants.{Copied, Seen, Failed}
 use Rattle.queue_rows.specs.declared.change.Change.{Change}
 use Rattle.queue_rows.specs.declared.change.Change.TheVariants as changes
 use Rattle.propagation.specs.Copies.{taken_in_at}
 use Rattle.propagation.specs.Outcomes.{meant, IsFailure}
+use Rattle.propagation.specs.Taking.{Taking, known, refused, takes, taking_by, taking_in}
 use Rattle.propagation.specs.declared.arrival.Arriving.{Arriving as Answer}
-use Rattle.propagation.specs.declared.copy.Stamp.{Stamp}
 
-pub copied_is : (there : Tables) (at : SlotRef) (p : Parcel) (schedule : ScheduleRow) (table : TableRow) (stamp : Stamp) (origin made : List Change) → table_of there p.to ≡ Some table
-    → stamp.group ≡ there.transaction → origin ≡ [] → made ≡ taken_in_at table at p stamp
-    → arriving_by there at (record { parcel = p; schedule = schedule }) stamp.id stamp.moment None ≡ record { outcome = Copied stamp.id; origin = origin; there = made }
+pub taken_is : {E : Type 0} (there : Tables) (table : TableRow) (at : SlotRef) (p : Parcel) (next moment : ℕ) (made : Result (List Change) E) → table_of there p.to ≡ Some table
+    → IfOk made (λ cs. cs ≡ taken_in_at table at p (record { id = next; group = there.transaction; moment = moment })) → IfOk made (λ cs. cs ≡ taken_in there at p next moment)
 unfolding taken_in
-copied_is there at p schedule table stamp origin made is group none made_is =
-    let taken : taken_in there at p stamp.id stamp.moment ≡ made =
-    ap (taken_in_by there at p stamp.id stamp.moment) is
-    ∙ ap (λ g. changes.Enqueued (copy_of table p stamp.id g stamp.moment) ∷ changes.Seen (record { id = at.id; slot = at.slot; copy = stamp.id }) ∷ []) (sym group)
-    ∙ sym made_is in
-    λ i. record { outcome = Copied stamp.id; origin = sym none i; there = taken i }
+taken_is there table at p next moment (Ok cs) is made_is = made_is ∙ ap (taken_in_by there at p next moment) (sym is)
+taken_is there table at p next moment (Err e) is made_is = tt
 
-pub failed_is : {E : Type 0} (there : Tables) (at : SlotRef) (p : Parcel) (schedule : ScheduleRow) (next moment : ℕ) (cause : Cause) (made : Result Answer E) → has_seen there at ≡ false
-    → cause_of there p next ≡ Some cause → IfOk made (IsFailure schedule cause moment)
-    → IfOk made (λ a. arriving there at (record { parcel = p; schedule = schedule }) next moment ≡ meant a)
-unfolding arriving
-failed_is there at p schedule next moment cause (Ok a) unseen is fails =
-    let seen : Arriving = record { outcome = Seen; origin = []; there = [] } in
-    ap (λ b. if b then seen else arriving_by there at (record { parcel = p; schedule = schedule }) next moment (cause_of there p next)) unseen
-    ∙ ap (arriving_by there at (record { parcel = p; schedule = schedule }) next moment) is ∙ fails there at p next
-failed_is there at p schedule next moment cause (Err e) unseen is fails = tt
+-- the arrival of what is sent, by that answer
+abbrev pub arriving_as : Dispatch → ℕ → ℕ → Taking → Arriving
+arriving_as d next moment known = record { outcome = Seen; origin = []; there = [] }
+arriving_as d next moment (refused cause) = record { outcome = Failed cause (is_last_failure d.schedule); origin = changes.PutSchedule (delayed d.schedule moment) ∷ []; there = [] }
+arriving_as d next moment (takes made) = record { outcome = Copied next; origin = []; there = made }
+
+by_cause : (there : Tables) (at : SlotRef) (d : Dispatch) (next moment : ℕ) (cause : Option Cause) → arriving_by there at d next moment cause ≡ arriving_as d next moment (taking_by there at d.parcel next moment cause)
+by_cause there at d next moment None = refl
+by_cause there at d next moment (Some cause) = refl
+
+by_seen : (there : Tables) (at : SlotRef) (d : Dispatch) (next moment : ℕ) (cause : Option Cause) (seen : Bool)
+    → (if seen then record { outcome = Seen; origin = []; there = [] } else arriving_by there at d next moment cause)
+    ≡ arriving_as d next moment (if seen then known else taking_by there at d.parcel next moment cause)
+by_seen there at d next moment cause true = refl
+by_seen there at d next moment cause false = by_cause there at d next moment cause
+
+arriving_by_taking : (there : Tables) (at : SlotRef) (d : Dispatch) (next moment : ℕ) → arriving there at d next moment ≡ arriving_as d next moment (taking_in there at d.parcel next moment)
+unfolding arriving taking_in
+arriving_by_taking there at d next moment = by_seen there at d next moment (cause_of there d.parcel next) (has_seen there at)
+
+pub arrives_as : (there : Tables) (at : SlotRef) (d : Dispatch) (p : Parcel) (next moment : ℕ) (t : Taking) → p ≡ d.parcel → t ≡ taking_in there at p next moment
+    → arriving there at d next moment ≡ arriving_as d next moment t
+arrives_as there at d p next moment t sent is =
+    arriving_by_taking there at d next moment ∙ ap (arriving_as d next moment) (ap (λ q. taking_in there at q next moment) (sym sent) ∙ sym is)
+
+pub failed_is : {E : Type 0} (there : Tables) (at : SlotRef) (d : Dispatch) (next moment : ℕ) (cause : Cause) (made : Result Answer E)
+    → arriving there at d next moment ≡ arriving_as d next moment (refused cause) → IfOk made (IsFailure d.schedule cause moment)
+    → IfOk made (λ a. arriving there at d next moment ≡ meant a)
+failed_is there at d next moment cause (Ok a) is fails = is ∙ fails there at d.parcel next
+failed_is there at d next moment cause (Err e) is fails = tt

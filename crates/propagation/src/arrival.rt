@@ -1,16 +1,14 @@
 // What the arrival of a slot does at its destination.
-ghost use Rattle.std.specs.Prelude.{◌≡◌, ◌<◌, ◌≤◌, ◌^◌, [], Some, None, IfOk, IfSome, IsSome};
-ghost use Rattle.queue_rows.specs.Rows.{table_of};
-ghost use Rattle.queue_rows.specs.Propagating.{dispatch, arriving_by, arriving};
+ghost use Rattle.std.specs.Prelude.{◌≡◌, ◌≤◌, ◌^◌, Some, IfOk, IfSome, IsSome};
+ghost use Rattle.queue_rows.specs.Propagating.{dispatch, arriving};
 ghost use Rattle.propagation.specs.Outcomes.{meant, arrival_of, IsFailure};
-ghost use Rattle.propagation.specs.Sent.{parcel_of, dispatch_by};
+ghost use Rattle.propagation.specs.Sent.{dispatch_by};
 
-use crate::copy::{Stamp, taken_in};
-use crate::destination::{destination, has_seen};
 use crate::schedules::{delayed, is_last_failure};
 use crate::sent::{Sent, sent_at};
+use crate::taking::{TakenIn, take_in};
 use payload_records::{Boxed, List};
-use queue_rows::{Arrival, Cause, Change, MessageTables, ScheduleRow, SlotRef, TableRow, Tables};
+use queue_rows::{Arrival, Cause, Change, MessageTables, ScheduleRow, SlotRef, Tables};
 use std::alloc::{AllocError, Global};
 
 /// How an arrival ends, and what it commits.
@@ -22,29 +20,6 @@ pub struct Arriving {
     pub origin: List<Change>,
     /// What is committed at the destination.
     pub there: List<Change>,
-}
-
-fn copied(
-    there: &Tables,
-    table: &TableRow,
-    at: &SlotRef,
-    sent: Sent<'_>,
-    stamp: Stamp,
-) -> Result<Arriving, AllocError>
-    requires table { table_of there.now (parcel_of sent).to ≡ Some table.now }
-    requires id { stamp.id < 2 ^ 61 }
-    requires group { stamp.group ≡ there.now.transaction }
-    requires transaction { there.now.transaction ≤ 2 ^ 61 }
-    requires moment { stamp.moment ≤ 2 ^ 62 }
-    ensures { IfOk result (λ a.
-        arriving_by there.now at.now (dispatch_by sent.entry) stamp.id stamp.moment None ≡ meant a) }
-{
-    let alloc = there.schedules.allocator();
-    Ok(Arriving {
-        outcome: Arrival::Copied(stamp.id),
-        origin: List::new(alloc),
-        there: taken_in(alloc, table, at, sent, stamp)?,
-    })
 }
 
 fn failed(
@@ -70,7 +45,6 @@ fn failed(
     })
 }
 
-#[tactic(auto, unfolding(queue_rows::specs::Propagating::arriving))]
 fn arrive_at(
     there: &Tables,
     at: &SlotRef,
@@ -84,23 +58,18 @@ fn arrive_at(
     ensures { IfOk result (λ a. arriving there.now at.now (dispatch_by sent.entry) next moment ≡ meant a) }
 {
     let alloc = there.schedules.allocator();
-    if has_seen(there, at) {
-        return Ok(Arriving {
+    match take_in(there, at, sent.parcel(), next, moment)? {
+        TakenIn::Known => Ok(Arriving {
             outcome: Arrival::Seen,
             origin: List::new(alloc),
             there: List::new(alloc),
-        });
-    }
-    match destination(there, sent, next) {
-        Ok(table) => {
-            let stamp = Stamp {
-                id: next,
-                group: there.transaction,
-                moment,
-            };
-            copied(there, table, at, sent, stamp)
-        }
-        Err(cause) => failed(alloc, sent.schedule, cause, moment),
+        }),
+        TakenIn::Refused(cause) => failed(alloc, sent.schedule, cause, moment),
+        TakenIn::Takes(changes) => Ok(Arriving {
+            outcome: Arrival::Copied(next),
+            origin: List::new(alloc),
+            there: changes,
+        }),
     }
 }
 

@@ -1,14 +1,15 @@
 // The copy that is put in at the destination.
-ghost use Rattle.std.specs.Prelude.{◌≡◌, ◌<◌, ◌≤◌, ◌^◌, [], ◌∷◌, map, pos, IfOk, if◌then◌else◌};
+ghost use Rattle.std.specs.Prelude.{◌≡◌, ◌<◌, ◌≤◌, ◌^◌, [], ◌∷◌, map, option_copied, pos, IfOk, if◌then◌else◌};
 ghost use Rattle.queue_rows.specs.Commits.{column_value, place_of};
 ghost use Rattle.queue_rows.specs.Propagating.{copy_slot, copy_of, taken_in_by};
-ghost use Rattle.propagation.specs.Sent.{parcel_of};
+ghost use Rattle.propagation.specs.Sent.{facts_of, parcel_meant};
 ghost use Rattle.propagation.specs.Copies.{copy_at, taken_in_at};
 
-use crate::sent::Sent;
+use crate::parcel::ParcelRef;
 use payload_records::{Boxed, Copied, List};
 use place_keys::{Column, Place, SortList};
 use queue_rows::{Change, MsgRow, SeenRow, SlotRef, SlotRow, SlotState, TableRow};
+use rule_conditions::Facts;
 use smallvec::SmallVec;
 use std::alloc::{AllocError, Global};
 
@@ -72,12 +73,32 @@ fn place_of(
     Place::of(alloc, lane(table, stamp.group), values.as_slice(), stamp.id)
 }
 
+fn copied_of<T: Copied>(value: Option<&T>) -> Result<Option<T>, AllocError>
+    ensures { IfOk result (λ copy. copy ≡ option_copied value.entry) }
+{
+    match value {
+        None => Ok(None),
+        Some(value) => Ok(Some(value.copied()?)),
+    }
+}
+
+fn copied_facts(parcel: ParcelRef<'_>) -> Result<Facts, AllocError>
+    ensures { IfOk result (λ facts. facts ≡ facts_of parcel.entry) }
+{
+    Ok(Facts {
+        priority: parcel.priority,
+        corr: copied_of(parcel.corr)?,
+        cells: parcel.payload.copied()?,
+        props: parcel.props.copied()?,
+    })
+}
+
 /// The one slot, with the recipient's name where a message of the table may have many.
-fn copy_slot(table: &TableRow, sent: Sent<'_>, moment: u64) -> Result<SlotRow, AllocError>
-    ensures { IfOk result (λ slot. slot ≡ copy_slot table.now (parcel_of sent.entry) moment) }
+fn copy_slot(table: &TableRow, parcel: ParcelRef<'_>, moment: u64) -> Result<SlotRow, AllocError>
+    ensures { IfOk result (λ slot. slot ≡ copy_slot table.now (parcel_meant parcel.entry) moment) }
 {
     let name = if table.multi {
-        Copied::copied(&sent.slot.name)?
+        copied_of(parcel.name)?
     } else {
         None
     };
@@ -87,45 +108,44 @@ fn copy_slot(table: &TableRow, sent: Sent<'_>, moment: u64) -> Result<SlotRow, A
         state: SlotState::Ready,
         retries: 0,
         at: moment,
-        expires: sent.slot.expires,
+        expires: parcel.expires,
     })
 }
 
 fn copy_slots(
     alloc: Global,
     table: &TableRow,
-    sent: Sent<'_>,
+    parcel: ParcelRef<'_>,
     moment: u64,
 ) -> Result<List<SlotRow>, AllocError>
-    ensures { IfOk result (λ slots. slots ≡ copy_slot table.now (parcel_of sent.entry) moment ∷ []) }
+    ensures { IfOk result (λ slots. slots ≡ copy_slot table.now (parcel_meant parcel.entry) moment ∷ []) }
 {
     let mut slots = Vec::with_capacity(alloc, 1)?;
-    slots.push(copy_slot(table, sent, moment)?)?;
+    slots.push(copy_slot(table, parcel, moment)?)?;
     Ok(List::from_vec(slots))
 }
 
 fn copy_of(
     alloc: Global,
     table: &TableRow,
-    sent: Sent<'_>,
+    parcel: ParcelRef<'_>,
     stamp: Stamp,
 ) -> Result<MsgRow, AllocError>
     requires id { stamp.id < 2 ^ 61 }
     requires group { stamp.group ≤ 2 ^ 61 }
     requires moment { stamp.moment ≤ 2 ^ 62 }
-    ensures { IfOk result (λ copy. copy ≡ copy_at table.now (parcel_of sent.entry) stamp) }
+    ensures { IfOk result (λ copy. copy ≡ copy_at table.now (parcel_meant parcel.entry) stamp) }
 {
-    let facts = &sent.message.facts;
     Ok(MsgRow {
         id: stamp.id,
-        queue: sent.schedule.to.copied()?,
-        place: place_of(alloc, table, facts.priority, stamp)?,
-        facts: facts.copied()?,
+        queue: parcel.to.copied()?,
+        place: place_of(alloc, table, parcel.priority, stamp)?,
+        facts: copied_facts(parcel)?,
         exception: None,
         enq: stamp.moment,
         group: stamp.group,
         moved: false,
-        slots: copy_slots(alloc, table, sent, stamp.moment)?,
+        slots: copy_slots(alloc, table, parcel, stamp.moment)?,
     })
 }
 
@@ -134,16 +154,16 @@ pub(crate) fn taken_in(
     alloc: Global,
     table: &TableRow,
     at: &SlotRef,
-    sent: Sent<'_>,
+    parcel: ParcelRef<'_>,
     stamp: Stamp,
 ) -> Result<List<Change>, AllocError>
     requires id { stamp.id < 2 ^ 61 }
     requires group { stamp.group ≤ 2 ^ 61 }
     requires moment { stamp.moment ≤ 2 ^ 62 }
-    ensures { IfOk result (λ changes. changes ≡ taken_in_at table.now at.now (parcel_of sent.entry) stamp) }
+    ensures { IfOk result (λ changes. changes ≡ taken_in_at table.now at.now (parcel_meant parcel.entry) stamp) }
 {
     let mut changes = Vec::with_capacity(alloc, 2)?;
-    let copy = Boxed::new(alloc, copy_of(alloc, table, sent, stamp)?)?;
+    let copy = Boxed::new(alloc, copy_of(alloc, table, parcel, stamp)?)?;
     changes.push(Change::Enqueued(copy))?;
     changes.push(Change::Seen(SeenRow {
         id: at.id,

@@ -3,9 +3,9 @@ ghost use Rattle.std.specs.Prelude.{◌≡◌, ◌<◌, ◌^◌, Some, None, IfO
 ghost use Rattle.std.specs.List.{list_all};
 ghost use Rattle.queue_rows.specs.Rows.{table_of};
 ghost use Rattle.queue_rows.specs.Propagating.{is_same_field, is_same_type, cause_at_table, cause_of, has_seen};
-ghost use Rattle.propagation.specs.Sent.{parcel_of};
+ghost use Rattle.propagation.specs.Sent.{parcel_meant};
 
-use crate::sent::Sent;
+use crate::parcel::ParcelRef;
 use aq_base::NEXT_LIMIT;
 use payload_records::{Field, List, RecordType};
 use queue_rows::{Cause, SlotRef, TableRow, Tables, find_queue, find_table};
@@ -45,10 +45,10 @@ fn is_same_type(left: &RecordType, right: &RecordType) -> bool
     left.len() == right.len() && are_same_fields(left, right)
 }
 
-fn cause_at_table(table: &TableRow, sent: Sent<'_>, next: u64) -> Option<Cause>
-    ensures { result ≡ cause_at_table (parcel_of sent.entry) next (Some table.now) }
+fn cause_at_table(table: &TableRow, parcel: ParcelRef<'_>, next: u64) -> Option<Cause>
+    ensures { result ≡ cause_at_table (parcel_meant parcel.entry) next (Some table.now) }
 {
-    if !is_same_type(&table.fields, &sent.table.fields) {
+    if !is_same_type(&table.fields, parcel.fields) {
         return Some(Cause::Payload);
     }
     if next >= NEXT_LIMIT {
@@ -61,15 +61,15 @@ fn cause_at_table(table: &TableRow, sent: Sent<'_>, next: u64) -> Option<Cause>
 #[tactic(auto, unfolding(queue_rows::specs::Propagating::cause_of))]
 pub(crate) fn destination<'a>(
     there: &'a Tables,
-    sent: Sent<'_>,
+    parcel: ParcelRef<'_>,
     next: u64,
 ) -> Result<&'a TableRow, Cause>
-    ensures table { IfOk result (λ table. table_of there.now (parcel_of sent.entry).to ≡ Some table.now) }
-    ensures taken { IfOk result (λ table. cause_of there.now (parcel_of sent.entry) next ≡ None) }
+    ensures table { IfOk result (λ table. table_of there.now (parcel_meant parcel.entry).to ≡ Some table.now) }
+    ensures taken { IfOk result (λ table. cause_of there.now (parcel_meant parcel.entry) next ≡ None) }
     ensures limit { IfOk result (λ table. next < 2 ^ 61) }
-    ensures failed { IfErr result (λ cause. cause_of there.now (parcel_of sent.entry) next ≡ Some cause) }
+    ensures failed { IfErr result (λ cause. cause_of there.now (parcel_meant parcel.entry) next ≡ Some cause) }
 {
-    let Some(queue) = find_queue(there, &sent.schedule.to) else {
+    let Some(queue) = find_queue(there, parcel.to) else {
         return Err(Cause::NoQueue);
     };
     if queue.kind.is_exception() {
@@ -81,7 +81,7 @@ pub(crate) fn destination<'a>(
     let Some(table) = find_table(there, &queue.table) else {
         return Err(Cause::NoQueue);
     };
-    match cause_at_table(table, sent, next) {
+    match cause_at_table(table, parcel, next) {
         Some(cause) => Err(cause),
         None => Ok(table),
     }

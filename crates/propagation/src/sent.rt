@@ -2,8 +2,9 @@
 ghost use Rattle.std.specs.Prelude.{◌≡◌, find, option_copied, option_map};
 ghost use Rattle.queue_rows.specs.Rows.{table_of};
 ghost use Rattle.queue_rows.specs.Propagating.{is_schedule_of, dispatch_of_slot, dispatch};
-ghost use Rattle.propagation.specs.Sent.{dispatch_by};
+ghost use Rattle.propagation.specs.Sent.{parcel_meant, parcel_of, dispatch_by};
 
+use crate::parcel::ParcelRef;
 use payload_records::Name;
 use queue_rows::{
     MessageTables, MsgRow, ScheduleRow, SlotRef, SlotRow, TableRow, Tables, find_queue, find_table,
@@ -21,6 +22,25 @@ pub(crate) struct Sent<'a> {
     pub(crate) table: &'a TableRow,
     /// The schedule.
     pub(crate) schedule: &'a ScheduleRow,
+}
+
+impl<'a> Sent<'a> {
+    /// What its destination needs of it.
+    pub(crate) fn parcel(self) -> ParcelRef<'a>
+        ensures { parcel_meant result ≡ parcel_of self.entry }
+    {
+        let facts = &self.message.facts;
+        ParcelRef {
+            to: &self.schedule.to,
+            name: self.slot.name.as_ref(),
+            fields: &self.table.fields,
+            payload: &facts.cells,
+            priority: facts.priority,
+            corr: facts.corr.as_ref(),
+            props: &facts.props,
+            expires: self.slot.expires,
+        }
+    }
 }
 
 fn is_schedule_of(queue: &Name, slot: &SlotRow, schedule: &ScheduleRow) -> bool
@@ -74,4 +94,12 @@ pub fn schedule_of<'a, T: MessageTables>(origin: &'a T, at: &SlotRef) -> Option<
 {
     let sent = sent_at(origin, at)?;
     Some(sent.schedule)
+}
+
+/// What is sent of that slot; none where the slot, its message's table or a schedule for it is not there. It takes no memory.
+pub fn parcel_at<'a, T: MessageTables>(origin: &'a T, at: &SlotRef) -> Option<ParcelRef<'a>>
+    ensures { option_map parcel_meant result ≡ option_map (λ d. d.parcel) (dispatch (T.tables origin.now) at.now) }
+{
+    let sent = sent_at(origin, at)?;
+    Some(sent.parcel())
 }
