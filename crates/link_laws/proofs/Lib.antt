@@ -1,0 +1,4 @@
+pub mod Commits
+pub mod Confirming
+pub mod Taking
+pub mod Tracing
