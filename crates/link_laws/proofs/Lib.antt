@@ -1,4 +1,5 @@
 pub mod Commits
 pub mod Confirming
+pub mod Nodes
 pub mod Taking
 pub mod Tracing
