@@ -150,6 +150,7 @@ module _ (opening : DbId → Tables) (valid : (db : DbId) → is_valid (opening 
         split : (list_any (is_done_of at) (changes_of n.commits) || list_any (is_done_of at) c.changes) ≡ true
         split =
             sym (list_any-append (is_done_of at) (changes_of n.commits) c.changes) ∙ ap (λ cs. list_any (is_done_of at) (changes_of n.commits ++ cs)) (sym (append-nil c.changes)) ∙ ap (list_any (is_done_of at)) (sym (changes_append n.commits (c ∷ []))) ∙ h
+
         by : (list_any (is_done_of at) (changes_of n.commits) ≡ true) ⊎ (list_any (is_done_of at) c.changes ≡ true) → (list_any (is_done_of at) (changes_of n.commits) ≡ true) ⊎ (has_seen there at ≡ true)
         by (inl e) = inl e
         by (inr e) = inr (f e)

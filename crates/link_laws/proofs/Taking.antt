@@ -145,6 +145,7 @@ pair_says copy row other c = by (Contains-push_cases (changes.Enqueued copy ∷ 
         no : Contains [] (changes.Seen other) ⊎ (changes.Enqueued copy ≡ changes.Seen other) → ⊥
         no (inl n) = let lt = n.1 in omega (arith, lt)
         no (inr e) = let x = e in cc
+
     by : Contains (changes.Enqueued copy ∷ []) (changes.Seen other) ⊎ (changes.Seen row ≡ changes.Seen other) → other ≡ row
     by (inl a) = absurd (first a)
     by (inr e) = let x = e in cc

@@ -4,6 +4,8 @@
 //! The law is a function with an empty body, whose clause it is; a caller that calls it has it.
 #![tactic(auto)]
 
+mod laws;
 mod packet;
 
+pub use laws::link_is_safe;
 pub use packet::{Event, Handled, NodeEvent, Packet, Parcel};
