@@ -1,8 +1,7 @@
 -- What the commits of a node are: each fits, leaves rows as they were, and puts in a copy of what was sent.
-use Rattle.std.proofs.Common.{◌≡◌, ◌≤◌, ◌⊎◌, inl, inr, ℕ, List, [], ◌∷◌, ◌++◌, Bool, true, false, refl, sym, ap, subst, ◌∙◌, arith, take, drop, length, append-nil, append_assoc, take-append-drop}
-use Rattle.std.specs.Prelude.{max, fold, flat_map, Contains}
-use Rattle.std.specs.List.{list_any}
-use Rattle.std.proofs.lemmas.Bool.{and_parts, and_from, or_left, or_cases}
+use Rattle.std.proofs.Common.{◌≡◌, ◌⊎◌, inl, inr, ℕ, List, [], ◌∷◌, ◌++◌, true, refl, sym, ap, subst, ◌∙◌, take, drop, append_assoc, take-append-drop}
+use Rattle.std.specs.Prelude.{Contains}
+use Rattle.std.proofs.lemmas.Bool.{and_parts, and_from}
 use Rattle.std.proofs.lemmas.Grind.{flat_map-append}
 use Rattle.std.proofs.lemmas.List.Sums.{fold-append}
 use Rattle.queue_rows.specs.Tables.{after_change, after_all, after}
@@ -10,6 +9,7 @@ use Rattle.queue_rows.specs.Fits.{fits, all_name_what_is_there}
 use Rattle.queue_rows.specs.Propagating.{has_seen}
 use Rattle.queue_rows.specs.Valid.{is_valid}
 use Rattle.queue_rows.specs.declared.tables.Tables.{Tables}
+use Rattle.queue_rows.specs.declared.rows.MsgRow.{MsgRow}
 use Rattle.queue_rows.specs.declared.change.Change.{Change}
 use Rattle.queue_rows.specs.declared.change.Change.TheVariants as changes
 use Rattle.queue_rows.specs.declared.change.Commit.{Commit}
@@ -19,6 +19,7 @@ use Rattle.history_laws.specs.Made.{changes_of, after_commits}
 use Rattle.history_laws.specs.LegalFates.{all_fit}
 use Rattle.history_laws.proofs.Commits.{no_items, last_or_before}
 use Rattle.history_laws.proofs.Seeing.{seen_stays}
+use Rattle.link_laws.specs.Laws.{IsSeenWith}
 use Rattle.link_laws.proofs.Tracing.{IsTraced, opening_traced}
 
 -- ---- tables after commits
@@ -56,11 +57,12 @@ seen_first n cs t at h =
 -- ---- what each commit is
 
 module _ (opening origin : Tables) where
-  -- It fits the tables before it, leaves traced what was so, and where it says that a slot was seen it puts in its copy.
+  -- It fits the tables before it, leaves traced what was so, and where it says that a slot was seen it puts in its copy, and nothing else.
   pub record IsRightCommit (t : Tables) (c : Commit) : Type 0 where
     pub fit : fits t c ≡ true
     pub keeps : (id slot : ℕ) → IsTraced opening slot id t → IsTraced opening slot id (after t c)
     pub copies : (at : SlotRef) (copy : ℕ) → Contains c.changes (changes.Seen (record { id = at.id; slot = at.slot; copy = copy })) → IsCopy origin t at copy c.changes
+    pub seen : (row : MsgRow) → Contains c.changes (changes.Enqueued row) → IsSeenWith c row
 
   abbrev pub AreRight : List Commit → Type 0
   AreRight commits = (before : List Commit) (c : Commit) (later : List Commit) → commits ≡ before ++ c ∷ later → IsRightCommit (after_commits opening before) c

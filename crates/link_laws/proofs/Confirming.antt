@@ -1,5 +1,5 @@
 -- What an origin commits when a receipt comes: the slot is done, and nothing else is.
-use Rattle.std.proofs.Common.{◌≡◌, ◌≤◌, ℕ, List, [], ◌∷◌, Bool, true, false, not, refl, sym, ap, ◌∙◌, arith, Option, Some, None, ◌==◌, ◌&&◌, ◌++◌, length, suc}
+use Rattle.std.proofs.Common.{◌≡◌, ◌≤◌, ℕ, List, [], ◌∷◌, Bool, true, false, refl, sym, ap, ◌∙◌, arith, Option, Some, None, ◌==◌, ◌++◌, length, suc}
 use Rattle.std.specs.Prelude.{find, flat_map, option_and_then, Contains, if◌then◌else◌}
 use Rattle.std.specs.List.{list_any, list_all}
 use Rattle.std.specs.Option.{option_map_or}
@@ -9,7 +9,7 @@ use Rattle.std.proofs.lemmas.Option.{none-some}
 use Rattle.aq_base.specs.declared.limits.TheConstants.{MOMENT_LIMIT}
 use Rattle.queue_rows.specs.Rows.{find_message, slot_of, table_of}
 use Rattle.queue_rows.specs.Tables.{after}
-use Rattle.queue_rows.specs.Settling.{is_ready, is_open, settling, settled, names_of}
+use Rattle.queue_rows.specs.Settling.{is_ready, is_open, settling, names_of}
 use Rattle.queue_rows.specs.World.{committed_tables}
 use Rattle.queue_rows.specs.Propagating.{Dispatch, dispatch_by, dispatch_of_slot, dispatch_of, dispatch, is_schedule_of, recovering, confirming}
 use Rattle.queue_rows.specs.Valid.{is_valid, is_valid_schedule}
@@ -116,6 +116,7 @@ module _ (opening origin t : Tables) (at : SlotRef) (d : Dispatch) (moment : ℕ
         (puts_local slot id cs (confirm_none t at d.schedule moment is_put_in refl (λ r. refl) (λ n queue a. refl) (λ n. refl))) h;
     copies = λ other copy c.
         absurd (none_passes says_seen cs (changes.Seen (record { id = other.id; slot = other.slot; copy = copy })) (confirm_none t at d.schedule moment says_seen refl (λ r. refl) (λ n queue a. refl) (λ n. refl)) c refl);
+    seen = λ row c. absurd (none_passes is_put_in cs (changes.Enqueued row) (confirm_none t at d.schedule moment is_put_in refl (λ r. refl) (λ n queue a. refl) (λ n. refl)) c refl);
   }
 
   recovering_plain : (s : ScheduleRow) (b : Bool) → list_all is_plain (changes.Done at.id at.slot moment ∷ (if b then [] else changes.PutSchedule (record s { failures = 0 }) ∷ [])) ≡ true

@@ -1,9 +1,9 @@
 -- The link keeps what its nodes keep, over every list of events; so it is safe.
-use Rattle.std.proofs.Common.{◌≡◌, ◌≤◌, ◌⊎◌, inl, inr, ℕ, ◌-◌, List, [], ◌∷◌, ◌++◌, Bool, true, false, refl, sym, ap, subst, ◌∙◌, arith, Option, Some, None, ◌==◌, append-nil}
-use Rattle.std.specs.Prelude.{fold, slice_get, Contains, if◌then◌else◌}
+use Rattle.std.proofs.Common.{◌≡◌, ◌⊎◌, inl, inr, ℕ, ◌-◌, List, [], ◌∷◌, ◌++◌, Bool, true, false, refl, sym, ap, subst, ◌∙◌, arith, Option, Some, None, ◌==◌, append-nil}
+use Rattle.std.specs.Prelude.{slice_get, Contains, if◌then◌else◌}
 use Rattle.std.specs.List.{list_any}
 use Rattle.std.proofs.lemmas.Bool.{false≢true}
-use Rattle.std.proofs.lemmas.List.Elements.{Contains-append_cases, Contains-get_or}
+use Rattle.std.proofs.lemmas.List.Elements.{Contains-append_cases}
 use Rattle.std.proofs.lemmas.Option.{none-some, slice_get_within, get_or_from_slice_get}
 use Rattle.aq_base.specs.declared.DbId.{DbId}
 use Rattle.aq_base.specs.declared.DbId.TheVariants.{Home, Away}
@@ -18,7 +18,7 @@ use Rattle.history_laws.specs.LegalFates.{opening_at}
 use Rattle.history_laws.proofs.Seeing.{fitting_sees_once}
 use Rattle.history_laws.proofs.Worlds.{latest_within}
 use Rattle.link_laws.specs.Node.{Node, Stepped, opened_node, silently, ticked, came, flushed, restarted}
-use Rattle.link_laws.specs.Link.{Link, opened_link, node_at, with_node, with_step, goes_to, delivered, delivered_if, packet_of, after_event, after_events}
+use Rattle.link_laws.specs.Link.{Link, opened_link, node_at, with_node, with_step, delivered, delivered_if, packet_of, after_event, after_events}
 use Rattle.link_laws.specs.Laws.{durable_tables, is_done_of, IsSafe, LinkIsSafe}
 use Rattle.link_laws.specs.declared.packet.Packet.{Packet}
 use Rattle.link_laws.specs.declared.packet.Packet.TheVariants as packets
@@ -43,6 +43,14 @@ module _ (opening : DbId → Tables) (valid : (db : DbId) → is_valid (opening 
     pub node : (db : DbId) → IsNode opening valid db (node_at db l)
     pub done : (db : DbId) (at : SlotRef) → IsDoneAt l db at → SeenAt l (other_db db) at
     pub sent : (packet : Packet) → Contains l.packets packet → WasSent l packet
+
+  -- the link goes on to one that holds, and what is durable stays seen
+  record Goes (l new : Link) : Type 0 where
+    pub holds : Holds new
+    pub seen : (db : DbId) (at : SlotRef) → SeenAt l db at → SeenAt new db at
+
+  rests : (l : Link) → Holds l → Goes l l
+  rests l h = record { holds = h; seen = λ db at g. g }
 
   -- ---- a step of a node
 
@@ -92,11 +100,14 @@ module _ (opening : DbId → Tables) (valid : (db : DbId) → is_valid (opening 
     all_sent packet (inl c) = old_sent packet (h.sent packet c)
     all_sent packet (inr c) = new_sent packet (k.sent packet c)
 
-    step_holds : Holds (with_step db s l)
-    step_holds = record {
-      node = λ e. node_by db e s k.node (h.node e);
-      done = λ e at g. done_later e at (done_by db e s at (k.done at) g);
-      sent = λ packet c. all_sent packet (Contains-append_cases l.packets s.sent packet (subst (λ ps. Contains ps packet) (packets_by db s) c));
+    step_goes : Goes l (with_step db s l)
+    step_goes = record {
+      holds = record {
+        node = λ e. node_by db e s k.node (h.node e);
+        done = λ e at g. done_later e at (done_by db e s at (k.done at) g);
+        sent = λ packet c. all_sent packet (Contains-append_cases l.packets s.sent packet (subst (λ ps. Contains ps packet) (packets_by db s) c));
+      };
+      seen = seen_later;
     }
 
   -- ---- an event
@@ -106,40 +117,43 @@ module _ (opening : DbId → Tables) (valid : (db : DbId) → is_valid (opening 
   silent_is l Home n = ap (λ ps. record l { home = n; packets = ps }) (append-nil l.packets)
   silent_is l Away n = ap (λ ps. record l { away = n; packets = ps }) (append-nil l.packets)
 
-  delivered_holds : (l : Link) (packet : Packet) → Holds l → WasSent l packet → Holds (delivered packet l)
-  delivered_holds l (packets.Parcel p) h g =
+  delivered_goes : (l : Link) (packet : Packet) → Holds l → WasSent l packet → Goes l (delivered packet l)
+  delivered_goes l (packets.Parcel p) h g =
       let db = other_db p.at.db in
       let n = node_at db l in
-      step_holds l h db (silently (came (packets.Parcel p) n)) (parcel_keeps opening valid db n (durable_tables (node_at (other_db db) l)) (h.node db) p refl g)
-  delivered_holds l (packets.Receipt at) h g =
+      step_goes l h db (silently (came (packets.Parcel p) n)) (parcel_keeps opening valid db n (durable_tables (node_at (other_db db) l)) (h.node db) p refl g)
+  delivered_goes l (packets.Receipt at) h g =
       let n = node_at at.db l in
-      step_holds l h at.db (silently (came (packets.Receipt at) n)) (receipt_keeps opening valid at.db n (durable_tables (node_at (other_db at.db) l)) (h.node at.db) at g)
+      step_goes l h at.db (silently (came (packets.Receipt at) n)) (receipt_keeps opening valid at.db n (durable_tables (node_at (other_db at.db) l)) (h.node at.db) at g)
 
   got_in : (ps : List Packet) (i : ℕ) (packet : Packet) → slice_get ps i ≡ Some packet → Contains ps packet
   got_in ps i packet e = (i, slice_get_within ps i packet e, get_or_from_slice_get ps i packet packet e)
 
-  got_holds : (l : Link) (o : Option Packet) → Holds l → ((packet : Packet) → o ≡ Some packet → Contains l.packets packet) → Holds (delivered_if o l)
-  got_holds l None h f = h
-  got_holds l (Some packet) h f = delivered_holds l packet h (h.sent packet (f packet refl))
+  got_goes : (l : Link) (o : Option Packet) → Holds l → ((packet : Packet) → o ≡ Some packet → Contains l.packets packet) → Goes l (delivered_if o l)
+  got_goes l None h f = rests l h
+  got_goes l (Some packet) h f = delivered_goes l packet h (h.sent packet (f packet refl))
 
   packet_in : (l : Link) (number : ℕ) (packet : Packet) (b : Bool) → (if b then None else slice_get l.packets (number - 1)) ≡ Some packet → Contains l.packets packet
   packet_in l number packet true e = absurd (none-some packet e)
   packet_in l number packet false e = got_in l.packets (number - 1) packet e
 
-  event_holds : (l : Link) (event : Event) → Holds l → Holds (after_event l event)
+  event_goes : (l : Link) (event : Event) → Holds l → Goes l (after_event l event)
   unfolding after_event
-  event_holds l (events.Tick db moment) h =
-      step_holds l h db (ticked moment (node_at db l)) (tick_keeps opening valid db (node_at db l) (durable_tables (node_at (other_db db) l)) (h.node db) moment)
-  event_holds l (events.Deliver number) h = got_holds l (packet_of l number) h (λ packet e. packet_in l number packet (number == 0) e)
-  event_holds l (events.Flush db) h = step_holds l h db (flushed (node_at db l)) (flush_keeps opening valid db (node_at db l) (durable_tables (node_at (other_db db) l)) (h.node db))
-  event_holds l (events.Restart db keep) h =
-      subst Holds (silent_is l db (restarted keep (node_at db l)))
-      (step_holds l h db (silently (restarted keep (node_at db l))) (restart_keeps opening valid db (node_at db l) (durable_tables (node_at (other_db db) l)) (h.node db) keep))
+  event_goes l (events.Tick db moment) h =
+      step_goes l h db (ticked moment (node_at db l)) (tick_keeps opening valid db (node_at db l) (durable_tables (node_at (other_db db) l)) (h.node db) moment)
+  event_goes l (events.Deliver number) h = got_goes l (packet_of l number) h (λ packet e. packet_in l number packet (number == 0) e)
+  event_goes l (events.Flush db) h = step_goes l h db (flushed (node_at db l)) (flush_keeps opening valid db (node_at db l) (durable_tables (node_at (other_db db) l)) (h.node db))
+  event_goes l (events.Restart db keep) h =
+      subst (Goes l) (silent_is l db (restarted keep (node_at db l)))
+      (step_goes l h db (silently (restarted keep (node_at db l))) (restart_keeps opening valid db (node_at db l) (durable_tables (node_at (other_db db) l)) (h.node db) keep))
 
-  events_hold : (es : List Event) (l : Link) → Holds l → Holds (after_events l es)
+  events_go : (es : List Event) (l : Link) → Holds l → Goes l (after_events l es)
   unfolding after_events
-  events_hold [] l h = h
-  events_hold (e ∷ es) l h = events_hold es (after_event l e) (event_holds l e h)
+  events_go [] l h = rests l h
+  events_go (e ∷ es) l h =
+      let first = event_goes l e h in
+      let rest = events_go es (after_event l e) first.holds in
+      record { holds = rest.holds; seen = λ db at g. rest.seen db at (first.seen db at g) }
 
   -- ---- the beginning
 
@@ -168,7 +182,9 @@ module _ (opening : DbId → Tables) (valid : (db : DbId) → is_valid (opening 
       copies = λ at before later c copy e g.
           let n = node_at (other_db at.db) l in
           subst (λ t. IsCopy t (after_commits n.opening before) at copy c.changes) (origin_is at) (((h.node (other_db at.db)).right before c later e).copies at copy g);
+      all = λ db before later c row e g. ((h.node db).right before c later e).seen row g;
       held = λ at e. h.done at.db at e;
+      stays = λ later. (events_go later l h).seen;
     }
 
 opening_valid : (home away : Tables) → is_valid home ≡ true → is_valid away ≡ true → (db : DbId) → is_valid (opening_at db home away) ≡ true
@@ -191,7 +207,7 @@ module _ (home away : Tables) (h : is_valid home ≡ true) (a : is_valid away �
   link_holds = record { node = nodes_hold; done = λ db at e. absurd (none_done db at e); sent = λ packet c. absurd (nothing_in packet c) }
 
   safe_after : (es : List Event) → IsSafe (after_events (opened_link home away) es)
-  safe_after es = holds_safe opening (opening_valid home away h a) (after_events (opened_link home away) es) (events_hold opening (opening_valid home away h a) es (opened_link home away) link_holds)
+  safe_after es = holds_safe opening (opening_valid home away h a) (after_events (opened_link home away) es) (events_go opening (opening_valid home away h a) es (opened_link home away) link_holds).holds
 
 pub link_is_safe : LinkIsSafe
 link_is_safe home away es h a = safe_after home away h a es

@@ -1,6 +1,6 @@
 -- What each step of a node keeps.
-use Rattle.std.proofs.Common.{◌≡◌, ◌≤◌, ◌⊎◌, inl, inr, ℕ, List, [], ◌∷◌, ◌++◌, Bool, true, false, refl, sym, ap, subst, ◌∙◌, arith, Option, Some, None, ◌==◌, ◌&&◌, ◌||◌, append-nil, take, drop, length, length-append, length-take, take-append-drop}
-use Rattle.std.specs.Prelude.{max, min, option_map, option_and_then, Contains, if◌then◌else◌}
+use Rattle.std.proofs.Common.{◌≡◌, ◌≤◌, ◌⊎◌, inl, inr, ℕ, List, [], ◌∷◌, ◌++◌, Bool, true, false, refl, sym, ap, subst, ◌∙◌, arith, Option, Some, None, ◌==◌, ◌||◌, append-nil, take, drop, length, length-append, length-take, take-append-drop}
+use Rattle.std.specs.Prelude.{max, option_map, option_and_then, Contains, if◌then◌else◌}
 use Rattle.std.specs.List.{list_any}
 use Rattle.std.proofs.Math.Seq.{take-length}
 use Rattle.std.proofs.lemmas.Bool.{and_parts, eqb-true, or_cases, or_left, true≢false}
@@ -23,7 +23,7 @@ use Rattle.queue_rows.specs.declared.history.SlotRef.{SlotRef}
 use Rattle.history_laws.specs.Made.{changes_of, after_commits}
 use Rattle.history_laws.proofs.Worlds.{latest_within}
 use Rattle.propagation.specs.Taking.{Taking, known, refused, takes, taking_in}
-use Rattle.link_laws.specs.Node.{Node, Stepped, tables_of, silently, committing, holding, receipt_held, is_flushed, parcel_by, parcel_at, slot_at, parcel_now, sends, at_moment, sends_if_flushed, ticked, inner, took_in, parcel_came, is_ready_at, confirmed_by, receipt_came, flushed, kept, restarted}
+use Rattle.link_laws.specs.Node.{Node, Stepped, tables_of, silently, committing, receipt_held, is_flushed, parcel_by, parcel_at, slot_at, parcel_now, sends, at_moment, ticked, inner, took_in, parcel_came, is_ready_at, confirmed_by, receipt_came, flushed, restarted}
 use Rattle.link_laws.specs.Laws.{durable_tables, is_done_of}
 use Rattle.link_laws.specs.declared.packet.Parcel.{Parcel}
 use Rattle.link_laws.specs.declared.packet.Packet.{Packet}

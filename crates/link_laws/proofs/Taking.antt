@@ -1,16 +1,16 @@
 -- What a destination takes in of a slot that was sent: a copy that fits, with the facts that the origin had as it began.
-use Rattle.std.proofs.Common.{◌≡◌, ◌≤◌, ◌⊎◌, inl, inr, ℕ, suc, zero, List, [], ◌∷◌, Bool, true, false, not, refl, sym, ap, subst, ◌∙◌, arith, Option, Some, None, ◌==◌, ◌&&◌, ◌||◌, ◌++◌, length}
+use Rattle.std.proofs.Common.{◌≡◌, ◌≤◌, ◌⊎◌, inl, inr, ℕ, suc, zero, List, [], ◌∷◌, Bool, true, false, not, refl, sym, ap, subst, ◌∙◌, arith, Option, Some, None, ◌==◌, ◌||◌, ◌++◌, length}
 use Rattle.std.specs.Prelude.{option_and_then, is_some, slice_get, Contains, if◌then◌else◌}
 use Rattle.std.specs.List.{list_any, list_all}
 use Rattle.std.specs.Option.{option_map_or}
 use Rattle.std.proofs.lemmas.Bool.{and_parts, and_from, or_right, eq-eqb}
-use Rattle.std.proofs.lemmas.List.Elements.{Contains-push_cases}
+use Rattle.std.proofs.lemmas.List.Elements.{Contains-push, Contains-push_cases}
 use Rattle.std.proofs.lemmas.Option.{none-some}
 use Rattle.aq_base.specs.declared.limits.TheConstants.{MOMENT_LIMIT}
-use Rattle.queue_rows.specs.Rows.{find_table, find_message, slot_of, slot_index}
+use Rattle.queue_rows.specs.Rows.{find_table, slot_of, slot_index}
 use Rattle.queue_rows.specs.Tables.{after, after_all}
 use Rattle.queue_rows.specs.Fits.{fits}
-use Rattle.queue_rows.specs.Propagating.{Parcel, Dispatch, dispatch, cause_of, copy_of, copy_slot, taken_in, taken_in_by, is_last_failure, arriving_by, arriving, has_seen, is_pair}
+use Rattle.queue_rows.specs.Propagating.{Parcel, Dispatch, dispatch, cause_of, copy_of, copy_slot, taken_in, taken_in_by, arriving_by, arriving, has_seen, is_pair}
 use Rattle.queue_rows.specs.World.{committed_tables}
 use Rattle.queue_rows.specs.Valid.{is_valid}
 use Rattle.queue_rows.specs.declared.tables.Tables.{Tables}
@@ -22,21 +22,21 @@ use Rattle.queue_rows.specs.declared.change.Change.TheVariants as changes
 use Rattle.queue_rows.specs.declared.change.Commit.{Commit}
 use Rattle.queue_rows.specs.declared.history.SlotRef.{SlotRef}
 use Rattle.queue_rows.specs.declared.history.Cause.{Cause}
-use Rattle.queue_rows.specs.declared.history.Arrival.{Arrival}
-use Rattle.queue_rows.specs.declared.history.Arrival.TheVariants.{Copied, Seen, Failed}
+use Rattle.queue_rows.specs.declared.history.Arrival.TheVariants.{Copied, Seen}
 use Rattle.row_laws.proofs.Slots.{slot_at}
 use Rattle.statement_laws.proofs.Among.{any_last}
 use Rattle.valid_laws.specs.Touching.{are_proper}
 use Rattle.valid_laws.specs.ArrivalLaws.{MayTakeIn}
 use Rattle.valid_laws.proofs.Arriving.{arrival_fits}
 use Rattle.history_laws.specs.Arrivals.{IsCopy}
-use Rattle.history_laws.specs.LocalMarks.{is_remote_slot, is_remote_at}
+use Rattle.history_laws.specs.LocalMarks.{is_remote_slot}
 use Rattle.history_laws.proofs.Admitting.{copy_may_be_taken_in}
 use Rattle.history_laws.proofs.Committing.{arrival_is_proper}
 use Rattle.history_laws.proofs.Copying.{arriving_copies}
 use Rattle.history_laws.proofs.Plain.{is_plain, committed_latest}
 use Rattle.history_laws.proofs.Sending.{sent_is_remote}
-use Rattle.propagation.specs.Taking.{Taking, known, refused, takes, taking_by, taking_in}
+use Rattle.propagation.specs.Taking.{known, refused, takes, taking_by, taking_in}
+use Rattle.link_laws.specs.Laws.{IsSeenWith}
 use Rattle.link_laws.proofs.Tracing.{IsTraced, AllPutLocal, commit_traced}
 use Rattle.link_laws.proofs.Commits.{IsRightCommit}
 
@@ -120,7 +120,7 @@ copy_of_opening origin there at p id cs s k =
       unseen = k.unseen;
     }
 
--- the same copy, told of the slot of those numbers
+-- it is the copy of any slot of those numbers
 copy_alike : (origin there : Tables) (at other : SlotRef) (id copy : ℕ) (cs : List Change) → other.id ≡ at.id → other.slot ≡ at.slot → copy ≡ id → IsCopy origin there at id cs → IsCopy origin there other copy cs
 copy_alike origin there at other id copy cs e f g k =
     let here : SlotRef = record { id = at.id; slot = at.slot; db = other.db } in
@@ -149,6 +149,18 @@ pair_says copy row other c = by (Contains-push_cases (changes.Enqueued copy ∷ 
     by : Contains (changes.Enqueued copy ∷ []) (changes.Seen other) ⊎ (changes.Seen row ≡ changes.Seen other) → other ≡ row
     by (inl a) = absurd (first a)
     by (inr e) = let x = e in cc
+
+-- and puts in no other message than its first
+pair_puts : (copy other : MsgRow) (row : SeenRow) → Contains (changes.Enqueued copy ∷ changes.Seen row ∷ []) (changes.Enqueued other) → other ≡ copy
+pair_puts copy other row c = by (Contains-push_cases (changes.Enqueued copy ∷ []) (changes.Seen row) (changes.Enqueued other) c)
+  where
+    first : Contains [] (changes.Enqueued other) ⊎ (changes.Enqueued copy ≡ changes.Enqueued other) → other ≡ copy
+    first (inl n) = absurd (let lt = n.1 in omega (arith, lt))
+    first (inr e) = let x = e in cc
+
+    by : Contains (changes.Enqueued copy ∷ []) (changes.Enqueued other) ⊎ (changes.Seen row ≡ changes.Enqueued other) → other ≡ copy
+    by (inl a) = first (Contains-push_cases [] (changes.Enqueued copy) (changes.Enqueued other) a)
+    by (inr e) = absurd (let x = e in cc)
 
 module _ (opening origin there : Tables) (at : SlotRef) (p : Parcel) (moment : ℕ) (cs : List Change) (v : is_valid there ≡ true) (le : there.latest ≤ moment) (top : moment ≤ MOMENT_LIMIT)
     (s : IsSentOf origin at p) (e : taking_in there at p there.next moment ≡ takes cs) where
@@ -179,6 +191,15 @@ module _ (opening origin there : Tables) (at : SlotRef) (p : Parcel) (moment : �
   abbrev made : Commit
   made = record { moment = moment; changes = cs }
 
+  -- the message that it puts in is the copy of the slot that it has seen
+  seen_with : (row : MsgRow) → Contains cs (changes.Enqueued row) → IsSeenWith (record { moment = moment; changes = cs }) row
+  seen_with row c =
+      let m = copy_of may.table d.parcel there.next there.transaction moment in
+      let pair : SeenRow = record { id = at.id; slot = at.slot; copy = there.next } in
+      let same : row ≡ m = pair_puts m row pair (subst (λ xs. Contains xs (changes.Enqueued row)) put_in c) in
+      let last : Contains cs (changes.Seen pair) = subst (λ xs. Contains xs (changes.Seen pair)) (sym put_in) (Contains-push (changes.Enqueued m ∷ []) (changes.Seen pair)) in
+      record { id = at.id; slot = at.slot; seen = subst (λ n. Contains cs (changes.Seen (record { id = at.id; slot = at.slot; copy = n }))) (ap (λ x. x.id) (sym same)) last }
+
   pub take_in_right : IsRightCommit opening origin there made
   take_in_right = record {
     fit = ap (λ xs. fits there (record { moment = moment; changes = xs })) (sym is_taken.changes_are) ∙ arrival_fits there at d.parcel there.next moment v le top may;
@@ -188,6 +209,7 @@ module _ (opening origin there : Tables) (at : SlotRef) (p : Parcel) (moment : �
         let row = pair_says (copy_of may.table d.parcel there.next there.transaction moment) (record { id = at.id; slot = at.slot; copy = there.next }) (record { id = other.id; slot = other.slot; copy = copy })
         (subst (λ xs. Contains xs (changes.Seen (record { id = other.id; slot = other.slot; copy = copy }))) put_in c) in
         copy_alike origin there at other there.next copy cs (ap (λ r. r.id) row) (ap (λ r. r.slot) row) (ap (λ r. r.copy) row) copies_so;
+    seen = seen_with;
   }
 
   -- it is no empty list

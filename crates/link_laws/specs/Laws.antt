@@ -4,6 +4,7 @@ use Rattle.std.specs.Prelude.{◌≡◌, ℕ, ◌&&◌, ◌==◌, List, ◌∷�
 use Rattle.std.specs.List.{list_any}
 use Rattle.history_laws.specs.Arrivals.{IsCopy, IsSeenOnce}
 use Rattle.history_laws.specs.Made.{changes_of, after_commits}
+use Rattle.aq_base.specs.declared.DbId.{DbId}
 use Rattle.queue_rows.specs.Propagating.{has_seen}
 use Rattle.queue_rows.specs.Valid.{is_valid}
 use Rattle.queue_rows.specs.World.{other_db}
@@ -12,6 +13,7 @@ use Rattle.queue_rows.specs.declared.change.Change.TheVariants as changes
 use Rattle.queue_rows.specs.declared.change.Commit.{Commit}
 use Rattle.queue_rows.specs.declared.history.SlotRef.{SlotRef}
 use Rattle.queue_rows.specs.declared.tables.Tables.{Tables}
+use Rattle.queue_rows.specs.declared.rows.MsgRow.{MsgRow}
 use Rattle.link_laws.specs.Link.{Link, node_at, opened_link, after_events}
 use Rattle.link_laws.specs.Node.{Node}
 use Rattle.link_laws.specs.declared.packet.Event.{Event}
@@ -38,6 +40,17 @@ AreCopies l = (at : SlotRef) (before later : List Commit) (c : Commit) (copy : �
     → Contains c.changes (changes.Seen (record { id = at.id; slot = at.slot; copy = copy }))
     → IsCopy (origin_of at l).opening (after_commits (destination_of at l).opening before) at copy c.changes
 
+-- a message that a commit puts in is the copy of a slot of which the commit says that it was seen
+pub record IsSeenWith (c : Commit) (row : MsgRow) : Type 0 where
+  pub id : ℕ
+  pub slot : ℕ
+  pub seen : Contains c.changes (changes.Seen (record { id = id; slot = slot; copy = row.id }))
+
+-- so nothing is put in but copies
+abbrev pub AreAllCopies : Link → Type 0
+AreAllCopies l = (db : DbId) (before later : List Commit) (c : Commit) (row : MsgRow) → IsCommitOf (node_at db l) before c later
+    → Contains c.changes (changes.Enqueued row) → IsSeenWith c row
+
 -- ---- confirmations
 
 abbrev pub is_done_of : SlotRef → Change → Bool
@@ -56,12 +69,19 @@ durable_tables n = after_commits n.opening (take n.durable n.commits)
 abbrev pub IsHeldThere : Link → SlotRef → Type 0
 IsHeldThere l at = is_confirmed l at ≡ true → has_seen (durable_tables (destination_of at l)) at ≡ true
 
+-- and no later event, no restart either, takes it away
+abbrev pub StaysSeen : Link → List Event → Type 0
+StaysSeen l later = (db : DbId) (at : SlotRef) → has_seen (durable_tables (node_at db l)) at ≡ true
+    → has_seen (durable_tables (node_at db (after_events l later))) at ≡ true
+
 -- ---- the theorem
 
 pub record IsSafe (l : Link) : Type 0 where
   pub once : (at : SlotRef) → IsCopiedOnce l at
   pub copies : AreCopies l
+  pub all : AreAllCopies l
   pub held : (at : SlotRef) → IsHeldThere l at
+  pub stays : (later : List Event) → StaysSeen l later
 
 -- over every list of losses, repeats, reorderings and restarts
 abbrev pub LinkIsSafe : Type 0
