@@ -13,7 +13,7 @@ mod replay;
 mod synced;
 
 pub use device::{Disk, Failed, LENGTH_LIMIT};
-pub use file::FileDisk;
+pub use file::{DiskFile, FileAction, FileDisk, FileFault};
 pub use kept::Fill;
 pub use memory::MemoryDisk;
 pub use synced::write_synced;

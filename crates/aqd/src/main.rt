@@ -1,6 +1,9 @@
 //! The program: it makes the words, the input, the output, the two disks and the clock, calls the server, and ends with its status.
 #![tactic(auto)]
 
+mod causes;
+
+use crate::causes::{say_begun, say_cause};
 use aq_base::{ReaderSource, Words, WriterSink};
 use aq_clock::SystemClock;
 use aq_disk::FileDisk;
@@ -11,9 +14,9 @@ use std::process::ExitCode;
 use std::{io, mem};
 
 /// The files of the two databases, in the current folder.
-const HOME_FILE: &str = "home.aq";
+pub const HOME_FILE: &str = "home.aq";
 
-const AWAY_FILE: &str = "away.aq";
+pub const AWAY_FILE: &str = "away.aq";
 
 /// The lengths that are tried for an argument, as powers of two: the last is longer than any system passes.
 const FIRST_POWER: u32 = 8;
@@ -76,6 +79,9 @@ fn main(rt: HostRuntime) -> ExitCode {
     let clock = SystemClock::new(machine);
     let outcome = serve(alloc, &words, &mut input, &mut out, home, away, clock);
     let status = outcome.status;
+    say_begun(&rt, HOME_FILE, &outcome.home);
+    say_begun(&rt, AWAY_FILE, &outcome.away);
+    say_cause(&rt, status, &outcome.home, &outcome.away);
     // The process ends with its memory: to take a history apart entry by entry first would cost a long run some hundredths of its time.
     mem::forget(outcome);
     ExitCode::from(status)

@@ -1,8 +1,7 @@
 // A disk in memory with its images, a write and its sync on it, and a file.
-use aq_disk::{Disk, Failed, FileDisk, Fill, MemoryDisk, write_synced};
+use aq_disk::{Disk, DiskFile, Failed, FileAction, FileDisk, Fill, MemoryDisk, write_synced};
 use std::alloc::{AllocError, Global};
 use std::fs;
-use std::os::unix::fs::FileExt;
 use std::rt::Files;
 
 // ---- a disk in memory
@@ -85,7 +84,7 @@ const PATH: &str = "aq_disk.test";
 // What is written stands there, and nothing past its end.
 fn keeps<R: Files + Drop>(disk: &mut FileDisk<R>) -> bool
 where
-    R::File: FileExt,
+    R::File: DiskFile,
 {
     let mut buffer = *b"........";
     disk.len() == Ok(0)
@@ -99,7 +98,7 @@ where
 // A file that is not there yet is made, and nothing is written past its limit.
 fn is_made<R: Files + Drop>(disk: &mut FileDisk<R>) -> bool
 where
-    R::File: FileExt,
+    R::File: DiskFile,
 {
     keeps(disk)
         && disk.write_at(4_611_686_018_427_387_904, b"x").is_err()
@@ -117,6 +116,21 @@ fn is_file(rt: &HostRuntime, path: &str, length: Result<u64, Failed>) -> Result<
     })
 }
 
+fn is_refused<R: Files + Drop>(disk: &mut FileDisk<R>) -> bool
+where
+    R::File: DiskFile,
+{
+    let is_refused = disk.len().is_err();
+    is_refused && matches!(disk.first_fault(), Some(fault) if fault.action == FileAction::Lock)
+}
+
+// A file that a disk holds is refused to another one, and nothing is looked at.
+fn is_held(rt: &HostRuntime, path: &str) -> Result<bool, AllocError> {
+    let mut holder = FileDisk::at(rt.clone()?, rt.alloc(), path)?;
+    let mut other = FileDisk::at(rt.clone()?, rt.alloc(), path)?;
+    Ok(holder.len() == Ok(7) && is_refused(&mut other) && holder.sync().is_ok())
+}
+
 fn is_removed(rt: &HostRuntime, path: &str) -> bool {
     fs::remove_file(rt, path).is_ok()
 }
@@ -125,8 +139,9 @@ fn is_removed(rt: &HostRuntime, path: &str) -> bool {
 fn a_file_reads_as_it_was_written(rt: HostRuntime) -> Result<(), AllocError> {
     let is_made = is_file(&rt, PATH, Ok(0))?;
     let is_there = is_file(&rt, PATH, Ok(7))?;
+    let is_held = is_held(&rt, PATH)?;
     let is_removed = is_removed(&rt, PATH);
-    assert!(rt; is_made && is_there && is_removed);
+    assert!(rt; is_made && is_there && is_held && is_removed);
     assert!(rt; is_file(&rt, "no-such-folder/aq_disk.test", Err(Failed))?);
     Ok(())
 }

@@ -5,9 +5,9 @@ mod mounts;
 
 use crate::fault::Fault;
 use crate::words::{number, word};
+use aq_disk::DiskFile;
 use std::alloc::Global;
 use std::env::Args;
-use std::os::unix::fs::FileExt;
 use std::rt::Files;
 use std::time::Clock;
 
@@ -20,7 +20,7 @@ fn report_in<R: Files + Clock + Print + AllocGlobal>(
     words: &mut Args<Global>,
 ) -> Result<(), Fault>
 where
-    R::File: FileExt,
+    R::File: DiskFile,
 {
     let appends = number(words)?;
     let frames = number(words)?;
@@ -35,7 +35,7 @@ pub fn report<R: Files + Clock + Print + AllocGlobal>(
     words: &mut Args<Global>,
 ) -> Result<(), Fault>
 where
-    R::File: FileExt,
+    R::File: DiskFile,
 {
     let folder = word(words)?;
     report_in(rt, folder.as_str(), words)

@@ -11,10 +11,10 @@ mod timing;
 mod turns;
 mod words;
 
+use aq_disk::DiskFile;
 use fault::Fault;
 use std::alloc::Global;
 use std::env::Args;
-use std::os::unix::fs::FileExt;
 use std::rt::Files;
 use std::sync::Wait;
 use std::thread::Threads;
@@ -27,7 +27,7 @@ fn report<R: Files + Clock + CpuClock + Print + AllocGlobal + Threads + Wait + S
     words: &mut Args<Global>,
 ) -> Result<(), Fault>
 where
-    R::File: FileExt,
+    R::File: DiskFile,
 {
     match what {
         "index" => indexes::report(rt, words),

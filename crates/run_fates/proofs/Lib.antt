@@ -5,3 +5,4 @@ pub mod Lasting
 pub mod Leading
 pub mod Making
 pub mod Telling
+pub mod Throughout

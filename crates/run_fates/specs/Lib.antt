@@ -1,2 +1,3 @@
 pub mod DurableRun
 pub mod RunFates
+pub mod Throughout

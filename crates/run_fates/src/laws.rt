@@ -12,6 +12,7 @@ ghost use Rattle.run_fates.specs.RunFates.{
   LegalHasFates,
   LegalSeesOnce,
 };
+ghost use Rattle.run_fates.specs.Throughout.{LegalEntriesAreOwn, LegalIsValidThroughout};
 
 /// Each commit of a legal history fits the tables that those before it leave.
 pub fn legal_commits_fit()
@@ -57,4 +58,14 @@ pub fn legal_copies_durable()
 /// At the end of a serial history every commit is durable.
 pub fn serial_is_durable()
     ensures { SerialIsDurable }
+{}
+
+/// The tables of a legal history are valid as it opens and after each of its commits.
+pub fn legal_is_valid_throughout()
+    ensures { LegalIsValidThroughout }
+{}
+
+/// Each entry of a legal history is one that its actor may make: a session calls, waits, is told and ends itself.
+pub fn legal_entries_are_own()
+    ensures { LegalEntriesAreOwn }
 {}

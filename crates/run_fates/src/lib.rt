@@ -7,6 +7,6 @@ mod laws;
 
 pub use laws::{
     legal_commits_fit, legal_confirms_seen, legal_copies_durable, legal_ends_in,
-    legal_has_arrivals, legal_has_fates, legal_is_durable_as_told, legal_sees_once,
-    serial_is_durable,
+    legal_entries_are_own, legal_has_arrivals, legal_has_fates, legal_is_durable_as_told,
+    legal_is_valid_throughout, legal_sees_once, serial_is_durable,
 };

@@ -1,13 +1,12 @@
 // Appends to journals on files, each beside a plain write of as many bytes with one sync of its data.
 use crate::fault::Fault;
 use crate::timing::{hundredths, since};
-use aq_disk::FileDisk;
+use aq_disk::{DiskFile, FileDisk};
 use redo_journal::Journal;
 use std::alloc::Global;
 use std::fs;
 use std::fs::OpenFile;
 use std::io::Write;
-use std::os::unix::fs::FileExt;
 use std::rt::Files;
 use std::time::{Clock, Instant};
 
@@ -29,7 +28,7 @@ struct Plain<F> {
 /// A journal with frames of so many bodies, a plain file beside it, and how many nanoseconds each has taken.
 struct Lane<'a, R: Files>
 where
-    R::File: FileExt,
+    R::File: DiskFile,
 {
     bodies: usize,
     journal: Journal<FileDisk<&'a R>>,
@@ -40,7 +39,7 @@ where
 
 impl<'a, R: Files> Drop for Lane<'a, R>
 where
-    R::File: FileExt,
+    R::File: DiskFile,
 {
     fn drop(self) {
         let Self {
@@ -87,7 +86,7 @@ fn journal<'a, R: Files>(
     bodies: usize,
 ) -> Result<Journal<FileDisk<&'a R>>, Fault>
 where
-    R::File: FileExt,
+    R::File: DiskFile,
 {
     let path = path_in(alloc, folder, "grown", bodies)?;
     let disk = FileDisk::at(rt, alloc, path.as_str())?;
@@ -104,7 +103,7 @@ fn opened<'a, R: Files>(
     bodies: usize,
 ) -> Result<Lane<'a, R>, Fault>
 where
-    R::File: FileExt,
+    R::File: DiskFile,
 {
     let journal = journal(rt, alloc, folder, bodies)?;
     let plain = beside(rt, alloc, folder, bodies)?;
@@ -121,7 +120,7 @@ where
 /// sync costs changes from one moment to the next.
 fn step<R: Files + Clock>(rt: &R, lane: &mut Lane<'_, R>) -> Result<(), Fault>
 where
-    R::File: FileExt,
+    R::File: DiskFile,
 {
     let begun = Instant::now(rt)?;
     for _ in 0..lane.bodies {
@@ -142,7 +141,7 @@ fn a_second(count: u64, nanos: u64) -> u64 {
 
 fn print_lane<R: Files + Print>(rt: &R, lane: &Lane<'_, R>, appends: u64) -> Result<(), Fault>
 where
-    R::File: FileExt,
+    R::File: DiskFile,
 {
     let bodies = lane.bodies;
     let rate = a_second(appends, lane.grown);
@@ -158,7 +157,7 @@ where
 #[derive(Drop)]
 struct Lanes<'a, R: Files>
 where
-    R::File: FileExt,
+    R::File: DiskFile,
 {
     one: Lane<'a, R>,
     ten: Lane<'a, R>,
@@ -167,7 +166,7 @@ where
 
 fn opened_all<'a, R: Files>(rt: &'a R, alloc: Global, folder: &str) -> Result<Lanes<'a, R>, Fault>
 where
-    R::File: FileExt,
+    R::File: DiskFile,
 {
     Ok(Lanes {
         one: opened(rt, alloc, folder, 1)?,
@@ -178,7 +177,7 @@ where
 
 fn run<R: Files + Clock>(rt: &R, lanes: &mut Lanes<'_, R>, appends: u64) -> Result<(), Fault>
 where
-    R::File: FileExt,
+    R::File: DiskFile,
 {
     for _ in 0..appends {
         step(rt, &mut lanes.one)?;
@@ -190,7 +189,7 @@ where
 
 fn print_all<R: Files + Print>(rt: &R, lanes: &Lanes<'_, R>, appends: u64) -> Result<(), Fault>
 where
-    R::File: FileExt,
+    R::File: DiskFile,
 {
     print_lane(rt, &lanes.one, appends)?;
     print_lane(rt, &lanes.ten, appends)?;
@@ -211,7 +210,7 @@ pub fn report<R: Files + Clock + Print>(
     appends: u64,
 ) -> Result<(), Fault>
 where
-    R::File: FileExt,
+    R::File: DiskFile,
 {
     let mut lanes = opened_all(rt, alloc, folder)?;
     run(rt, &mut lanes, appends)?;

@@ -2,12 +2,11 @@
 use super::ROUNDS;
 use crate::fault::{Fault, right};
 use crate::timing::{Least, hundredths, since};
-use aq_disk::FileDisk;
+use aq_disk::{DiskFile, FileDisk};
 use payload_records::List;
 use redo_journal::{FrameAt, Journal};
 use std::alloc::Global;
 use std::fs;
-use std::os::unix::fs::FileExt;
 use std::rt::Files;
 use std::time::{Clock, Instant};
 
@@ -39,7 +38,7 @@ fn mount_time<R: Files + Clock>(
     wanted: u64,
 ) -> Result<u64, Fault>
 where
-    R::File: FileExt,
+    R::File: DiskFile,
 {
     let begun = Instant::now(rt)?;
     let disk = FileDisk::at(rt, alloc, path)?;
@@ -140,7 +139,7 @@ fn measure<R: Files + Clock + Print + AllocGlobal>(
     frames: u64,
 ) -> Result<(), Fault>
 where
-    R::File: FileExt,
+    R::File: DiskFile,
 {
     let (mut mounting, mut cutting, mut seeing) = (Least::NONE, Least::NONE, Least::NONE);
     write(rt, path, frames)?;
@@ -175,7 +174,7 @@ pub fn report<R: Files + Clock + Print + AllocGlobal>(
     frames: u64,
 ) -> Result<(), Fault>
 where
-    R::File: FileExt,
+    R::File: DiskFile,
 {
     let path = format!(in rt.alloc(); "{folder}/mounted")?;
     measure(rt, path.as_str(), frames)
