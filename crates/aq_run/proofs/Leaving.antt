@@ -1,94 +1,116 @@
 -- What a call that reached no run leaves of its disks.
 use Rattle.std.proofs.Common.{◌≡◌, ◌⊎◌, inl, inr, ◌≤◌, ℕ, List, [], Option, sym, ap, subst, ◌∙◌, arith}
 use Rattle.aq_base.specs.declared.DbId.TheVariants.{Home, Away}
-use Rattle.aq_world.specs.Held.{Held, HasFailed}
-use Rattle.aq_world.specs.Survival.{Survives}
-use Rattle.aq_world.specs.Mounting.{RecoversTo, KeepsRecovered, HasMountCause}
+use Rattle.aq_base.specs.declared.stream.Sink.{Ghosts as SinkGhosts}
+use Rattle.aq_disk.specs.declared.device.Disk.{Ghosts}
+use Rattle.queue_rows.specs.declared.tables.Tables.{Tables}
+use Rattle.aq_world.specs.Held.{Held}
+use Rattle.aq_world.specs.Mounting.{AreMounted, HasMountCause, IsBeforeAway, LosesNothing}
+use Rattle.aq_world.specs.Recovery.{FailsEither, FailsNeither}
 use Rattle.aq_world.specs.declared.mount.MountCause.{MountCause}
 use Rattle.aq_world.specs.declared.mount.MountCause.TheVariants.{Fault, Damaged, Memory}
 use Rattle.aq_world.specs.declared.mount.MountFault.{MountFault}
-use Rattle.aq_run.specs.Disks.{FailsEither, FailsNeither, IsFaultCause, IsUnmounted}
-use Rattle.aq_run.specs.Serve.{empty_history, AnswersDamaged, IsStopped, LeavesDisks, TellsCause}
+use Rattle.aq_run.specs.Disks.{IsUnmounted}
+use Rattle.aq_run.specs.Histories.{empty_history}
+use Rattle.aq_run.specs.Outcomes.{AnswersDamaged, IsNotMounted, IsStatusOf, TellsCause}
+use Rattle.aq_run.specs.Serve.{LeavesDisks}
 use Rattle.aq_run.specs.declared.outcome.Outcome.{Outcome}
-use Rattle.aq_run.proofs.Surviving.{kept_same, kept_run, not_failed}
+use Rattle.aq_run.proofs.Surviving.{kept_same}
 
 -- ---- causes
 
-fault_fails : {D : Type 0} (seen : D → Option (List ℕ)) (faults : D → ℕ) (cause : MountCause) (home away home_after away_after : D) → HasMountCause seen faults cause home away home_after away_after → IsFaultCause cause
-    → FailsEither faults home away home_after away_after
-fault_fails seen faults (Fault Home) home away home_after away_after p is = inl p.0
-fault_fails seen faults (Fault Away) home away home_after away_after p is = inr p.2
-fault_fails seen faults (Damaged db offset) home away home_after away_after p is = absurd is
-fault_fails seen faults Memory home away home_after away_after p is = absurd is
+module _ {D : Type 0} (device : Ghosts D) where
+  before_fine : (away away_after : D) → IsBeforeAway device away away_after → device.faults away_after ≡ device.faults away
+  before_fine away away_after (inl same) = ap device.faults same
+  before_fine away away_after (inr read) = read.read.fine
 
-damage_fine : {S D : Type 0} (taken : S → Option (List ℕ)) (sink_faults : S → ℕ) (old new : S) (seen : D → Option (List ℕ)) (faults : D → ℕ) (cause : MountCause) (home away home_after away_after : D)
-    → HasMountCause seen faults cause home away home_after away_after → TellsCause taken sink_faults old new cause → FailsNeither faults home away home_after away_after
-damage_fine taken sink_faults old new seen faults (Fault db) home away home_after away_after p told = absurd told
-damage_fine taken sink_faults old new seen faults (Damaged Home offset) home away home_after away_after p told = (p.1, ap faults p.2)
-damage_fine taken sink_faults old new seen faults (Damaged Away offset) home away home_after away_after p told = (p.2, p.3)
-damage_fine taken sink_faults old new seen faults Memory home away home_after away_after p told = absurd told
+  -- 5 is the status of a fault
+  fault_fails : (cause : MountCause) (s : ℕ) (home away home_after away_after : D) → HasMountCause device cause home away home_after away_after → IsStatusOf cause s → s ≡ 5
+      → FailsEither device.faults home away home_after away_after
+  fault_fails (Fault Home) s home away home_after away_after p is five = inl p.0
+  fault_fails (Fault Away) s home away home_after away_after p is five = inr p.1
+  fault_fails (Damaged db offset) s home away home_after away_after p is five = absurd (omega (arith, is, five))
+  fault_fails Memory s home away home_after away_after p is five = absurd (omega (arith, is, five))
 
--- the cause that is told is the damage that comes first
-pub damage_told : {S D : Type 0} (taken : S → Option (List ℕ)) (sink_faults : S → ℕ) (old new : S) (seen : D → Option (List ℕ)) (faults : D → ℕ) (cause : MountCause) (home away home_after away_after : D)
-    → HasMountCause seen faults cause home away home_after away_after → TellsCause taken sink_faults old new cause → AnswersDamaged taken sink_faults old new seen home away
-damage_told taken sink_faults old new seen faults (Fault db) home away home_after away_after p told = absurd told
-damage_told taken sink_faults old new seen faults (Damaged Home offset) home away home_after away_after p told = record { db = Home; offset = offset; damaged = p.0; told = told }
-damage_told taken sink_faults old new seen faults (Damaged Away offset) home away home_after away_after p told = record { db = Away; offset = offset; damaged = (p.0, p.1); told = told }
-damage_told taken sink_faults old new seen faults Memory home away home_after away_after p told = absurd told
+  module _ {S : Type 0} (sink : SinkGhosts S) (old new : S) where
+    damage_fine : (cause : MountCause) (home away home_after away_after : D) → HasMountCause device cause home away home_after away_after
+        → TellsCause sink old new cause → FailsNeither device.faults home away home_after away_after
+    damage_fine (Fault db) home away home_after away_after p told = absurd told
+    damage_fine (Damaged Home offset) home away home_after away_after p told = (p.1, before_fine away away_after p.2)
+    damage_fine (Damaged Away offset) home away home_after away_after p told = (p.0.fine, p.3)
+    damage_fine Memory home away home_after away_after p told = absurd told
+
+    -- the cause that is told is the damage that comes first
+    damage_told : (cause : MountCause) (home away home_after away_after : D) → HasMountCause device cause home away home_after away_after
+        → TellsCause sink old new cause → AnswersDamaged sink device old new home away
+    damage_told (Fault db) home away home_after away_after p told = absurd told
+    damage_told (Damaged Home offset) home away home_after away_after p told = record { db = Home; offset = offset; damaged = p.0; told = told }
+    damage_told (Damaged Away offset) home away home_after away_after p told = record { db = Away; offset = offset; damaged = (p.0.recovered, p.2); told = told }
+    damage_told Memory home away home_after away_after p told = absurd told
 
 -- ---- statuses
 
 none_fine : {P : Type 0} (s : ℕ) → 1 ≤ s → s ≤ 4 → (s ≡ 0) ⊎ ((s ≡ 6) ⊎ (s ≡ 7)) → P
 none_fine s some few is = absurd (omega (arith, some, few, is))
 
-damaged_fine : {P : Type 0} (s : ℕ) → IsStopped s → (s ≡ 6 → P) → (s ≡ 0) ⊎ ((s ≡ 6) ⊎ (s ≡ 7)) → P
-damaged_fine s known f (inl e) = absurd (omega (arith, known, e))
-damaged_fine s known f (inr (inl e)) = f e
-damaged_fine s known f (inr (inr e)) = absurd (omega (arith, known, e))
+damaged_fine : {P : Type 0} (cause : MountCause) (s : ℕ) → IsStatusOf cause s → (s ≡ 6 → P) → (s ≡ 0) ⊎ ((s ≡ 6) ⊎ (s ≡ 7)) → P
+damaged_fine cause s known f (inr (inl e)) = f e
+damaged_fine (Fault db) s known f (inl e) = absurd (omega (arith, known, e))
+damaged_fine (Damaged db offset) s known f (inl e) = absurd (omega (arith, known, e))
+damaged_fine Memory s known f (inl e) = absurd (omega (arith, known, e))
+damaged_fine (Fault db) s known f (inr (inr e)) = absurd (omega (arith, known, e))
+damaged_fine (Damaged db offset) s known f (inr (inr e)) = absurd (omega (arith, known, e))
+damaged_fine Memory s known f (inr (inr e)) = absurd (omega (arith, known, e))
 
-module _ {D C : Type 0} (seen : D → Option (List ℕ)) (images : D → ℕ → List ℕ → Type 0) (calls faults : D → ℕ) (home away : D) where
+module _ {D C : Type 0} (device : Ghosts D) (home away : D) where
   -- the disks were not called
-  pub leaves_uncalled : (o : Outcome D C) → 1 ≤ o.status → o.status ≤ 4 → o.history ≡ empty_history → o.home ≡ home → o.away ≡ away → LeavesDisks seen images calls faults home away o
-  leaves_uncalled o some few empty home_is away_is = record {
-    home_crash = inl empty;
-    away_crash = inl empty;
-    home_kept = λ _. kept_same seen images calls home o.home home_is;
-    away_kept = λ _. kept_same seen images calls away o.away away_is;
+  pub leaves_uncalled : (o : Outcome D C) → 1 ≤ o.status → o.status ≤ 4 → o.home ≡ home → o.away ≡ away → LeavesDisks device home away o
+  leaves_uncalled o some few home_is away_is = record {
+    home_kept = λ _. kept_same device home o.home home_is;
+    away_kept = λ _. kept_same device away o.away away_is;
     failed = λ is. absurd (omega (arith, few, is));
     fine = λ is. none_fine o.status some few is;
   }
 
   -- the databases were not mounted
-  pub leaves_unmounted : {B : Type 0} (fault : MountFault D B) (o : Outcome D C) → IsUnmounted seen images calls faults home away fault → IsStopped o.status → (o.status ≡ 5 → IsFaultCause fault.cause)
-      → {S : Type 0} (taken : S → Option (List ℕ)) (sink_faults : S → ℕ) (old new : S) → (o.status ≡ 6 → TellsCause taken sink_faults old new fault.cause)
-      → o.history ≡ empty_history → o.home ≡ fault.home → o.away ≡ fault.away → LeavesDisks seen images calls faults home away o
-  leaves_unmounted fault o u known fails taken sink_faults old new tells empty home_is away_is = record {
-    home_crash = inl empty;
-    away_crash = inl empty;
-    home_kept = λ _. subst (KeepsRecovered seen images calls home) (sym home_is) u.home_kept;
-    away_kept = λ _. subst (KeepsRecovered seen images calls away) (sym away_is) u.away_kept;
-    failed = λ is. either_at (fault_fails seen faults fault.cause home away fault.home fault.away u.cause (fails is));
-    fine = λ is. neither_at (damaged_fine o.status known (λ six. damage_fine taken sink_faults old new seen faults fault.cause home away fault.home fault.away u.cause (tells six)) is);
-  }
-    where
-      either_at : FailsEither faults home away fault.home fault.away → FailsEither faults home away o.home o.away
-      either_at p = subst (λ x. FailsEither faults home away x o.away) (sym home_is) (subst (λ x. FailsEither faults home away fault.home x) (sym away_is) p)
+  module _ {B S : Type 0} (fault : MountFault D B) (o : Outcome D C) (u : IsUnmounted device home away fault) (status : IsStatusOf fault.cause o.status) (home_is : o.home ≡ fault.home) (away_is : o.away ≡ fault.away)
+      (sink : SinkGhosts S) (old new : S) (tells : o.status ≡ 6 → TellsCause sink old new fault.cause) where
+    -- what is said of the disks in the fault is said of those that are given back
+    as_given : (P : D → D → Type 0) → P fault.home fault.away → P o.home o.away
+    as_given P p = subst (λ x. P x o.away) (sym home_is) (subst (λ x. P fault.home x) (sym away_is) p)
 
-      neither_at : FailsNeither faults home away fault.home fault.away → FailsNeither faults home away o.home o.away
-      neither_at p = subst (λ x. FailsNeither faults home away x o.away) (sym home_is) (subst (λ x. FailsNeither faults home away fault.home x) (sym away_is) p)
+    pub leaves_unmounted : LeavesDisks device home away o
+    leaves_unmounted = record {
+      home_kept = λ _. (subst (λ x. LosesNothing device home x) (sym home_is) u.home_disk).kept;
+      away_kept = λ _. (subst (λ x. LosesNothing device away x) (sym away_is) u.away_disk).kept;
+      failed = λ is. as_given (FailsEither device.faults home away) (fault_fails device fault.cause o.status home away fault.home fault.away u.cause_is status is);
+      fine = λ is. as_given (FailsNeither device.faults home away) (damaged_fine fault.cause o.status status (λ six. damage_fine device sink old new fault.cause home away fault.home fault.away u.cause_is (tells six)) is);
+    }
+
+    pub answers_unmounted : ((o.status ≡ 4) ⊎ (o.status ≡ 5) → sink.taken new ≡ sink.taken old) → o.history ≡ empty_history → IsNotMounted sink device old new home away o
+    answers_unmounted nothing empty = record {
+      cause = fault.cause;
+      cause_is = as_given (HasMountCause device fault.cause home away) u.cause_is;
+      status = status;
+      damaged = λ six. damage_told device sink old new fault.cause home away fault.home fault.away u.cause_is (tells six);
+      nothing = nothing;
+      no_history = empty;
+      home_disk = subst (λ x. LosesNothing device home x) (sym home_is) u.home_disk;
+      away_disk = subst (λ x. LosesNothing device away x) (sym away_is) u.away_disk;
+    }
 
   -- they were mounted, and nothing was done then
-  pub leaves_mounted : (w : Held D) (o : Outcome D C) → Survives seen images calls faults (record { home = home; away = away }) w → (HasFailed w → ⊥) → w.entries ≡ []
-      → RecoversTo seen home w.world.home.opening → RecoversTo seen away w.world.away.opening → (o.status ≡ 5 → ⊥)
-      → o.history ≡ empty_history → o.home ≡ w.home.disk → o.away ≡ w.away.disk → LeavesDisks seen images calls faults home away o
-  leaves_mounted w o s never none home_recovers away_recovers not_five empty home_is away_is = record {
-    home_crash = inl empty;
-    away_crash = inl empty;
-    home_kept = λ _. subst (KeepsRecovered seen images calls home) (sym home_is) (kept_run seen images calls Home home w.world.home.opening w.entries w.home s.home none home_recovers);
-    away_kept = λ _. subst (KeepsRecovered seen images calls away) (sym away_is) (kept_run seen images calls Away away w.world.away.opening w.entries w.away s.away none away_recovers);
-    failed = λ is. absurd (not_five is);
-    fine = λ _. (
-      ap faults home_is ∙ s.home_faults.fine (not_failed w.home.failed_at (λ failed. never (inl failed))),
-      ap faults away_is ∙ s.away_faults.fine (not_failed w.away.failed_at (λ failed. never (inr failed))),
-    );
-  }
+  module _ (w : Held D) (m : AreMounted device home away w) (o : Outcome D C) (home_is : o.home ≡ w.home.disk) (away_is : o.away ≡ w.away.disk) where
+    pub mounted_home : LosesNothing device home o.home
+    mounted_home = subst (λ x. LosesNothing device home x) (sym home_is) (record { kept = m.home_log.crash; written = m.home_log.written })
+
+    pub mounted_away : LosesNothing device away o.away
+    mounted_away = subst (λ x. LosesNothing device away x) (sym away_is) (record { kept = m.away_log.crash; written = m.away_log.written })
+
+    pub leaves_mounted : (o.status ≡ 5 → ⊥) → LeavesDisks device home away o
+    leaves_mounted not_five = record {
+      home_kept = λ _. mounted_home.kept;
+      away_kept = λ _. mounted_away.kept;
+      failed = λ is. absurd (not_five is);
+      fine = λ _. (ap device.faults home_is ∙ m.home_log.fine, ap device.faults away_is ∙ m.away_log.fine);
+    }

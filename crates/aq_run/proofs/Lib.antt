@@ -1,6 +1,7 @@
 pub mod Answering
 pub mod Clocking
 pub mod Closing
+pub mod Commands
 pub mod Completing
 pub mod Fronts
 pub mod Leaving
@@ -10,6 +11,7 @@ pub mod Playing
 pub mod Progress
 pub mod Results
 pub mod Running
+pub mod Serving
 pub mod Statuses
 pub mod Surviving
 pub mod Taking

@@ -17,7 +17,7 @@ use Rattle.run_turns.proofs.Calling.{session-opened, scripts-opened, entries-ope
 use Rattle.aq_world.specs.Entries.{BeginsAs}
 use Rattle.aq_world.specs.Turning.{IsOfRun}
 use Rattle.aq_run.specs.Progress.{AreAt, AreTold}
-use Rattle.aq_run.specs.Serve.{empty_history}
+use Rattle.aq_run.specs.Histories.{empty_history}
 
 -- the world begins with its openings and these scripts
 abbrev pub Opens : List SessionScript → World → Type 0

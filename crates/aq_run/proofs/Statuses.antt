@@ -1,7 +1,10 @@
 -- The status of a run.
 use Rattle.std.proofs.Common.{◌≡◌, ◌⊎◌, inl, inr, ℕ, Bool, true, false, refl, sym, ◌∙◌, subst, arith}
 use Rattle.std.specs.Prelude.{◌==◌, if◌then◌else◌}
-use Rattle.aq_run.specs.Serve.{IsRun, status_of}
+use Rattle.aq_world.specs.declared.mount.MountCause.{MountCause}
+use Rattle.aq_world.specs.declared.mount.MountCause.TheVariants as causes
+use Rattle.aq_run.specs.Outcomes.{IsRun, IsStatusOf, IsStopped}
+use Rattle.aq_run.specs.Played.{status_of}
 use Rattle.aq_run.specs.declared.play.RunEnd.{RunEnd}
 use Rattle.aq_run.specs.declared.play.RunEnd.TheVariants as ends
 
@@ -58,3 +61,10 @@ halted_at ends.Memory written k is = absurd (omega (arith, is))
 -- who has that of a failed disk was halted, and had memory to print what was done
 pub status_halted : (end : RunEnd) (written s : ℕ) → s ≡ status_of end written → IsRun written ⊎ (written ≡ 4) → s ≡ 5 → (end ≡ ends.Halted) × (written ≡ 4 → ⊥)
 status_halted end written s e k is = halted_at end written k (sym e ∙ is)
+
+-- where nothing was mounted, it is 4, 5 or 6
+pub stopped_of : (cause : MountCause) (s : ℕ) → IsStatusOf cause s → IsStopped s
+stopped_of (causes.Fault db) s e = inr (inl e)
+stopped_of (causes.Damaged db offset) s (inl e) = inr (inr e)
+stopped_of (causes.Damaged db offset) s (inr e) = inl e
+stopped_of causes.Memory s e = inl e

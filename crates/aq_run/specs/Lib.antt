@@ -1,6 +1,15 @@
 pub mod Disks
+pub mod Dumping
+pub mod Faults
+pub mod Headline
+pub mod Histories
+pub mod Outcomes
 pub mod Passing
+pub mod Played
 pub mod Progress
+pub mod Reading
 pub mod Rounds
+pub mod SerialRun
 pub mod Serve
 pub mod Words
+pub mod Written

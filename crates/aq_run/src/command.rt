@@ -7,10 +7,28 @@ use aq_base::Words;
 /// A command of the program.
 #[derive(Clone, Copy, Debug, PartialEq, Eq)]
 pub enum Command {
-    /// The script that is read is run serially, over both databases.
-    RunSerial,
+    /// The script that is read is run over both databases.
+    Run {
+        /// Whether the turns follow the serial schedule. If not, each session is a thread of its own.
+        serially: bool,
+        /// Whether the trace of the run is printed in place of its transcript.
+        traced: bool,
+    },
     /// The tables of both databases are printed.
     Dump,
+    /// The journals of both databases are compacted.
+    Compact,
+    /// A script is generated, run serially over two empty databases in memory, and summed up.
+    Generate {
+        /// The number that the script is drawn from.
+        number: u64,
+        /// How many sessions it has.
+        sessions: u32,
+        /// How many statements each of them has.
+        statements: u32,
+    },
+    /// The trace that is read is checked against both databases.
+    Audit,
 }
 
 fn is_serial_run(words: &Words) -> bool
@@ -25,12 +43,15 @@ fn is_dump(words: &Words) -> bool
     words.count() == 1 && words.get(0) == Some("dump")
 }
 
-/// The command that the words ask for, if they ask for one.
+/// The command that the words ask for, if they ask for one that is there.
 pub fn command_of(words: &Words) -> Option<Command>
     ensures { result ≡ command_of words.now }
 {
     if is_serial_run(words) {
-        Some(Command::RunSerial)
+        Some(Command::Run {
+            serially: true,
+            traced: false,
+        })
     } else if is_dump(words) {
         Some(Command::Dump)
     } else {

@@ -1,8 +1,10 @@
 // The tables of both databases, printed.
 ghost use Rattle.std.specs.Prelude.{◌≡◌, ◌⊎◌};
-ghost use Rattle.std.specs.Io.KnownBytes.{Appends};
-ghost use Rattle.aq_run.specs.Serve.{empty_history, dump_text, AnswersCall, AnswersDump, IsRun, IsStopped};
-ghost use Rattle.aq_run.specs.Serve.{ReachesNoRun, Writes, WritesFront};
+ghost use Rattle.aq_run.specs.Written.{Writes};
+ghost use Rattle.aq_run.specs.Dumping.{dump_text, Dumps};
+ghost use Rattle.aq_run.specs.Histories.{HoldsOf};
+ghost use Rattle.aq_run.specs.Outcomes.{IsRun, ReachesNoRun};
+ghost use Rattle.aq_run.specs.Serve.{LeavesDisks};
 
 use crate::outcome::Outcome;
 use crate::unbegun::{unmounted, without_run};
@@ -50,14 +52,9 @@ pub fn dump<O: Sink, D: Disk, C: Clock>(
     away: D,
     clock: C,
 ) -> Outcome<D, C>
-    ensures known { IsRun result.status ⊎ IsStopped result.status }
-    ensures whole { result.status ≡ 0
-        → AnswersDump D.seen home away (Appends (O.taken out.old) (O.taken out.new)) }
-    ensures part { result.status ≡ 7 → AnswersDump D.seen home away (WritesFront O.taken out.old out.new) }
-    ensures nothing { (result.status ≡ 4) ⊎ (result.status ≡ 5) → O.taken out.new ≡ O.taken out.old }
-    ensures history { result.history ≡ empty_history }
-    ensures call { AnswersCall O.taken O.faults D.seen D.is_image D.calls D.faults
-        out.old out.new home away result }
+    ensures answers { Dumps O.Sink D.Disk out.old out.new home away result }
+    ensures disks { LeavesDisks D.Disk home away result }
+    ensures holds { HoldsOf result.history }
     ensures clock { result.clock ≡ clock }
 {
     match World::mount_serial(alloc, home, away, List::new(alloc)) {

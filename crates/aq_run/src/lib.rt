@@ -6,10 +6,10 @@ mod dump;
 mod outcome;
 mod play;
 mod rounds;
-mod serial;
+mod serial_run;
 mod top;
 mod unbegun;
 mod writing;
 
 pub use outcome::Outcome;
-pub use top::serve;
+pub use top::{serve, serve_serial};

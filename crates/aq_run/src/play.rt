@@ -2,7 +2,8 @@
 ghost use Rattle.std.specs.Prelude.{◌≡◌, IfOk, IfErr};
 ghost use Rattle.script_text.specs.Readable.{AreReadable};
 ghost use Rattle.aq_run.specs.Disks.{IsUnmounted};
-ghost use Rattle.aq_run.specs.Serve.{LegalHolds, PlaysOver, end_of};
+ghost use Rattle.aq_run.specs.Histories.{LegalHolds};
+ghost use Rattle.aq_run.specs.Played.{PlaysOver, end_of};
 
 use crate::rounds::run;
 use aq_clock::StepClock;
@@ -11,8 +12,9 @@ use aq_world::{Broken, Finished, MountFault, World};
 use payload_records::List;
 use queue_rows::{History, SessionScript};
 use run_fates::{
-    legal_commits_fit, legal_confirms_seen, legal_copies_durable, legal_has_arrivals,
-    legal_has_fates, legal_is_durable_as_told, legal_sees_once, serial_is_durable,
+    legal_commits_fit, legal_confirms_seen, legal_copies_durable, legal_entries_are_own,
+    legal_has_arrivals, legal_has_fates, legal_is_durable_as_told, legal_is_valid_throughout,
+    legal_sees_once, serial_is_durable,
 };
 use run_spellings::{legal_commits_spell, rules_are_texts, sound_is_spellable};
 use run_turns::{
@@ -31,6 +33,9 @@ pub fn legal_holds()
     legal_is_durable_as_told();
     legal_confirms_seen();
     legal_copies_durable();
+    legal_calls_in_order();
+    legal_entries_are_own();
+    legal_is_valid_throughout();
 }
 
 /// How a run ended.
@@ -76,10 +81,8 @@ pub fn play<D: Disk>(
     away: D,
 ) -> Result<Played<D>, MountFault<D, StepClock>>
     requires { AreReadable scripts }
-    ensures played { IfOk result (λ p.
-        PlaysOver D.seen D.is_image D.calls D.faults home away scripts p) }
-    ensures unmounted { IfErr result (λ e.
-        IsUnmounted D.seen D.is_image D.calls D.faults home away e) }
+    ensures played { IfOk result (λ p. PlaysOver D.Disk home away scripts p) }
+    ensures unmounted { IfErr result (λ e. IsUnmounted D.Disk home away e) }
 {
     legal_holds();
     sound_is_spellable();

@@ -1,8 +1,9 @@
 // Calls that reach no run.
 ghost use Rattle.std.specs.Prelude.{◌≡◌, ◌⊎◌, ◌≤◌};
-ghost use Rattle.aq_run.specs.Disks.{IsFaultCause, IsUnmounted};
-ghost use Rattle.aq_run.specs.Serve.{empty_history, AnswersCall, IsStopped, LeavesDisks, ReachesNoRun};
-ghost use Rattle.aq_run.specs.Serve.{TellsCause};
+ghost use Rattle.aq_run.specs.Disks.{IsUnmounted};
+ghost use Rattle.aq_run.specs.Histories.{empty_history};
+ghost use Rattle.aq_run.specs.Outcomes.{IsNotMounted, IsStatusOf, ReachesNoRun, TellsCause};
+ghost use Rattle.aq_run.specs.Serve.{LeavesDisks};
 
 use crate::outcome::Outcome;
 use crate::play::legal_holds;
@@ -61,16 +62,15 @@ pub fn unbegun<D: Disk, C: Clock>(
     requires few { status ≤ 4 }
     ensures status { result.status ≡ status }
     ensures none { ReachesNoRun home away clock result }
-    ensures disks { LeavesDisks D.seen D.is_image D.calls D.faults home away result }
+    ensures disks { LeavesDisks D.Disk home away result }
 {
     without_run(alloc, status, home, away, clock)
 }
 
 /// The status of a call whose databases were not mounted. Where one is damaged that is told.
 fn tell_cause<O: Sink>(alloc: Global, out: &mut O, cause: MountCause) -> u8
-    ensures known { IsStopped result }
-    ensures fault { result ≡ 5 → IsFaultCause cause }
-    ensures damaged { result ≡ 6 → TellsCause O.taken O.faults out.old out.new cause }
+    ensures status { IsStatusOf cause result }
+    ensures damaged { result ≡ 6 → TellsCause O.Sink out.old out.new cause }
     ensures nothing { (result ≡ 4) ⊎ (result ≡ 5) → O.taken out.new ≡ O.taken out.old }
 {
     match cause {
@@ -90,12 +90,10 @@ pub fn unmounted<O: Sink, D: Disk, C: Clock>(
     fault: MountFault<D, StepClock>,
     clock: C,
 ) -> Outcome<D, C>
-    ensures known { IsStopped result.status }
-    ensures nothing { (result.status ≡ 4) ⊎ (result.status ≡ 5) → O.taken out.new ≡ O.taken out.old }
     ensures none { ReachesNoRun fault.home fault.away clock result }
-    ensures call { (home away : D) → IsUnmounted D.seen D.is_image D.calls D.faults home away fault
-        → AnswersCall O.taken O.faults D.seen D.is_image D.calls D.faults
-        out.old out.new home away result }
+    ensures answers { (home away : D) → IsUnmounted D.Disk home away fault
+        → IsNotMounted O.Sink D.Disk out.old out.new home away result }
+    ensures disks { (home away : D) → IsUnmounted D.Disk home away fault → LeavesDisks D.Disk home away result }
 {
     let MountFault {
         cause,

@@ -1,7 +1,11 @@
 // What is written: histories, tables, and what is told of a call that reached no run.
 ghost use Rattle.std.specs.Prelude.{◌≡◌, ◌⊎◌, IfOk, OnOk, OnErr};
+ghost use Rattle.aq_run.specs.Written.{Tells, Writes};
+ghost use Rattle.aq_run.specs.Faults.{bad_line_text, damaged_text};
 ghost use Rattle.transcript.specs.Print.{print};
-ghost use Rattle.aq_run.specs.Serve.{bad_line_text, damaged_text, db_name, dump_text, IsRun, Tells, Writes};
+ghost use Rattle.transcript.specs.Rows.{db_word};
+ghost use Rattle.aq_run.specs.Dumping.{dump_text};
+ghost use Rattle.aq_run.specs.Outcomes.{IsRun};
 
 use aq_base::{DbId, Sink, write_all};
 use queue_rows::{History, Tables};
@@ -26,7 +30,7 @@ pub fn tell_bad<O: Sink>(alloc: Global, out: &mut O, line: u64) -> Result<(), Al
 }
 
 fn name_of(db: DbId) -> &'static str
-    ensures { result.now ≡ db_name db }
+    ensures { result.now ≡ db_word db }
 {
     match db {
         DbId::Home => "home",

@@ -1,5 +1,5 @@
 use Rattle.std.proofs.Common.{◌≡◌, ◌⊎◌, ℕ, sym, subst, ◌∙◌}
-use Rattle.aq_run.specs.Serve.{IsRun}
+use Rattle.aq_run.specs.Outcomes.{IsRun}
 use Rattle.aq_run.proofs.dump.shown.Goals as goal
 
 pub returns-clause-known : goal.returns-clause-known

@@ -28,8 +28,8 @@ returns-clause-played g c =
     let w = c.in_ok-world.world.held in
     let v = c.run.new.world.held in
     let f = c.finish-history.result in
-    played_as g.D.Disk.seen g.D.Disk.is_image g.D.Disk.calls g.D.Disk.faults c.args.home c.args.away c.args.scripts f.history _ c.end_of-end.result _ _ f.home f.away
-    (plays g.D.Disk.seen g.D.Disk.is_image g.D.Disk.calls g.D.Disk.faults c.args.home c.args.away c.args.scripts w v f.history
+    played_as g.D.Disk c.args.home c.args.away c.args.scripts f.history _ c.end_of-end.result _ _ f.home f.away
+    (plays g.D.Disk c.args.home c.args.away c.args.scripts w v f.history
     (record {
       opens = c.in_ok-world.ensures.opens;
       home_is = c.in_ok-world.ensures.home;
@@ -45,6 +45,7 @@ returns-clause-played g c =
       begins = c.finish-history.ensures.begins;
       begun_so = c.finish-history.ensures.running.running.begins;
       texts = c.rules_are_texts.ensures;
+      brief = c.finish-history.ensures.brief;
     })
     c.run.result c.run.ensures.whole c.run.ensures.front c.run.ensures.ends g.met.D.Disk.reads_an_image
     c.serial_front_is_legal.ensures c.serial_is_legal.ensures c.serial_is_done.ensures c.serial_calls_all.ensures c.legal_calls_in_order.ensures c.legal_holds.ensures c.sound_is_spellable.ensures c.legal_commits_spell.ensures c.serial_is_durable.ensures)
@@ -52,5 +53,5 @@ returns-clause-played g c =
 
 pub returns-in_err-world-clause-unmounted : goal.returns-in_err-world-clause-unmounted
 returns-in_err-world-clause-unmounted g c =
-    err_of (IsUnmounted g.D.Disk.seen g.D.Disk.is_image g.D.Disk.calls g.D.Disk.faults c.args.home c.args.away) c.from_residual.result c.in_err-world.field-0.0 c.from_residual.ensures.1
-    (record { cause = c.in_err-world.ensures.cause; home_kept = c.in_err-world.ensures.home_keeps; away_kept = c.in_err-world.ensures.away_keeps })
+    err_of (IsUnmounted g.D.Disk c.args.home c.args.away) c.from_residual.result c.in_err-world.field-0.0 c.from_residual.ensures.1
+    c.in_err-world.ensures.unopened

@@ -6,5 +6,4 @@ pub returns-clause-disks : goal.returns-clause-disks
 returns-clause-disks g c =
     let none = c.without_run.ensures.none in
     let status = c.without_run.ensures.status in
-    leaves_uncalled g.D.Disk.seen g.D.Disk.is_image g.D.Disk.calls g.D.Disk.faults c.args.home c.args.away c.without_run.result
-    (omega (arith, c.requires.some, status)) (omega (arith, c.requires.few, status)) none.history none.home_is none.away_is
+    leaves_uncalled g.D.Disk c.args.home c.args.away c.without_run.result (omega (arith, c.requires.some, status)) (omega (arith, c.requires.few, status)) none.home_is none.away_is

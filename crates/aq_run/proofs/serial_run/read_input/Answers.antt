@@ -1,5 +1,5 @@
 use Rattle.aq_run.proofs.Completing.{reads_so}
-use Rattle.aq_run.proofs.serial.read_input.Goals as goal
+use Rattle.aq_run.proofs.serial_run.read_input.Goals as goal
 
 pub returns-clause-bytes : goal.returns-clause-bytes
 returns-clause-bytes g c =

@@ -1,13 +1,14 @@
-// Serial runs of scripts.
-ghost use Rattle.std.specs.Prelude.{◌≡◌, ◌⊎◌, ℕ, List as Sequence, [], Some, Ok, Err};
-ghost use Rattle.std.specs.Prelude.{IfOk, IfErr, IfSome, IsErrOf};
+// The serial run of the script that is read.
+ghost use Rattle.std.specs.Prelude.{◌≡◌, ◌⊎◌, List as Sequence, Ok, IfOk, IfErr, IfSome, IsErrOf};
 ghost use Rattle.aq_base.specs.Causes.{Rose};
+ghost use Rattle.aq_run.specs.Reading.{ConsumesInput, ReadsBytes};
 ghost use Rattle.queue_rows.specs.declared.history.SessionScript.{SessionScript};
 ghost use Rattle.script_text.specs.Readable.{AreReadable};
 ghost use Rattle.script_text.specs.Script.{script, IsFaultOf};
-ghost use Rattle.aq_run.specs.Serve.{empty_history, status_of, AnswersBad, AnswersBytes, AnswersFront};
-ghost use Rattle.aq_run.specs.Serve.{AnswersRun, IsFrontBy, IsReadWhole, IsRun, IsRunBy, IsRunOf, IsStopped};
-ghost use Rattle.aq_run.specs.Serve.{ConsumesInput, IsUnread, PlaysOver, ReadsBytes};
+ghost use Rattle.aq_run.specs.Histories.{HoldsOf};
+ghost use Rattle.aq_run.specs.Played.{status_of, PlaysOver};
+ghost use Rattle.aq_run.specs.SerialRun.{AnswersBytes, AnswersScripts, IsSerialRun, RunsSerially};
+ghost use Rattle.aq_run.specs.Serve.{LeavesDisks};
 
 use crate::outcome::Outcome;
 use crate::play::{Played, RunEnd, play};
@@ -39,13 +40,12 @@ fn printed<O: Sink, D: Disk, C: Clock>(
     played: Played<D>,
     clock: C,
 ) -> Outcome<D, C>
-    ensures known { IsRun result.status ⊎ ((result.status ≡ 4) ⊎ (result.status ≡ 5)) }
-    ensures ran { IsRun result.status → played.end ≡ RunEnd.Whole }
+    ensures answers { (home away : D) (scripts : Sequence SessionScript)
+        → PlaysOver D.Disk home away scripts played
+        → IsSerialRun O.Sink D.Disk out.old out.new home away result scripts }
+    ensures disks { (home away : D) (scripts : Sequence SessionScript)
+        → PlaysOver D.Disk home away scripts played → LeavesDisks D.Disk home away result }
     ensures history { result.history ≡ played.history }
-    ensures run { (home away : D) (scripts : Sequence SessionScript)
-        → PlaysOver D.seen D.is_image D.calls D.faults home away scripts played
-        → AnswersRun O.taken O.faults D.seen D.is_image D.calls D.faults
-        out.old out.new home away result }
     ensures clock { result.clock ≡ clock }
 {
     let Played {
@@ -65,7 +65,7 @@ fn printed<O: Sink, D: Disk, C: Clock>(
 }
 
 /// The serial run of these scripts over the databases of the two disks, printed.
-fn run_serial<O: Sink, D: Disk, C: Clock>(
+fn run_scripts<O: Sink, D: Disk, C: Clock>(
     alloc: Global,
     scripts: List<SessionScript>,
     out: &mut O,
@@ -74,12 +74,9 @@ fn run_serial<O: Sink, D: Disk, C: Clock>(
     clock: C,
 ) -> Outcome<D, C>
     requires { AreReadable scripts }
-    ensures known { IsRun result.status ⊎ IsStopped result.status }
-    ensures history { IsRun result.status → IsRunBy D.seen home away scripts result.history }
-    ensures front { (result.status ≡ 4) ⊎ (result.status ≡ 5)
-        → (result.history ≡ empty_history) ⊎ IsFrontBy D.seen home away scripts result.history }
-    ensures run { AnswersRun O.taken O.faults D.seen D.is_image D.calls D.faults
-        out.old out.new home away result }
+    ensures answers { AnswersScripts O.Sink D.Disk out.old out.new home away result scripts }
+    ensures disks { LeavesDisks D.Disk home away result }
+    ensures holds { HoldsOf result.history }
     ensures clock { result.clock ≡ clock }
 {
     match play(alloc, scripts, home, away) {
@@ -107,15 +104,13 @@ fn run_bytes<O: Sink, D: Disk, C: Clock>(
     away: D,
     clock: C,
 ) -> Outcome<D, C>
-    ensures known { IsRun result.status ⊎ ((result.status ≡ 2) ⊎ IsStopped result.status) }
-    ensures untouched { result.status ≡ 2 → (result.home ≡ home) × (result.away ≡ away) }
-    ensures bytes { AnswersBytes O.taken O.faults out.old out.new D.seen home away result bytes.items }
-    ensures run { AnswersRun O.taken O.faults D.seen D.is_image D.calls D.faults
-        out.old out.new home away result }
+    ensures answers { AnswersBytes O.Sink D.Disk out.old out.new home away result bytes.items }
+    ensures disks { LeavesDisks D.Disk home away result }
+    ensures holds { HoldsOf result.history }
     ensures clock { result.clock ≡ clock }
 {
     match read_script(alloc, bytes) {
-        Ok(scripts) => run_serial(alloc, scripts, out, home, away, clock),
+        Ok(scripts) => run_scripts(alloc, scripts, out, home, away, clock),
         Err(ScriptFault::Memory) => unbegun(alloc, 4, home, away, clock),
         Err(ScriptFault::Bad { line }) => match tell_bad(alloc, out, line) {
             Ok(()) => unbegun(alloc, 2, home, away, clock),
@@ -135,8 +130,8 @@ fn read_input<I: Source>(alloc: Global, input: &mut I) -> Result<Vec<u8>, ReadFa
     read_up_to(alloc, input, INPUT_LIMIT + 1)
 }
 
-/// The run of the script that is read.
-pub fn run_input<I: Source, O: Sink, D: Disk, C: Clock>(
+/// The serial run of the script that is read.
+pub fn run_serially<I: Source, O: Sink, D: Disk, C: Clock>(
     alloc: Global,
     input: &mut I,
     out: &mut O,
@@ -144,28 +139,11 @@ pub fn run_input<I: Source, O: Sink, D: Disk, C: Clock>(
     away: D,
     clock: C,
 ) -> Outcome<D, C>
-    ensures known { IsRun result.status
-        ⊎ ((result.status ≡ 2) ⊎ ((result.status ≡ 3) ⊎ IsStopped result.status)) }
-    ensures read_fault { result.status ≡ 3
-        → Rose (I.faults input.old) (I.faults input.new) × (O.taken out.new ≡ O.taken out.old) }
-    ensures bad { result.status ≡ 2
-        → IfSome (I.left input.old) (AnswersBad O.taken O.faults out.old out.new) }
-    ensures not_bad { IfSome (I.left input.old) (λ xs. (line : ℕ) → script xs ≡ Err line
-        → (result.status ≡ 2) ⊎ ((result.status ≡ 3) ⊎ (result.status ≡ 4))) }
-    ensures bytes { IsUnread result ⊎ ((bytes : Sequence ℕ)
-        × ReadsBytes I.left I.read_gives input.old input.new bytes
-        × AnswersBytes O.taken O.faults out.old out.new D.seen home away result bytes) }
-    ensures read_whole { IsReadWhole result.status
-        → IfSome (I.left input.old) (λ _. I.left input.new ≡ Some []) }
+    ensures answers { RunsSerially I.Source O.Sink D.Disk
+        input.old input.new out.old out.new home away result }
     ensures consumed { ConsumesInput I.left input.old input.new }
-    ensures untouched { (result.status ≡ 2) ⊎ (result.status ≡ 3)
-        → (result.home ≡ home) × (result.away ≡ away) }
-    ensures history { IsRun result.status
-        → IfSome (I.left input.old) (IsRunOf D.seen home away result.history) }
-    ensures front { (result.status ≡ 4) ⊎ (result.status ≡ 5)
-        → IfSome (I.left input.old) (AnswersFront D.seen home away result.history) }
-    ensures run { AnswersRun O.taken O.faults D.seen D.is_image D.calls D.faults
-        out.old out.new home away result }
+    ensures disks { LeavesDisks D.Disk home away result }
+    ensures holds { HoldsOf result.history }
     ensures clock { result.clock ≡ clock }
 {
     match read_input(alloc, input) {
