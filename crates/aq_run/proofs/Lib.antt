@@ -2,6 +2,7 @@ pub mod Answering
 pub mod Clocking
 pub mod Closing
 pub mod Commands
+pub mod Compacted
 pub mod Completing
 pub mod Fronts
 pub mod Leaving

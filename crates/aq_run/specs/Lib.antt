@@ -1,3 +1,4 @@
+pub mod Compacting
 pub mod Disks
 pub mod Dumping
 pub mod Faults

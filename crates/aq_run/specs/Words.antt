@@ -19,9 +19,14 @@ abbrev pub is_dump : List (List ℕ) → Bool
 is_dump (a ∷ []) = bytes_eq a (codes "dump")
 is_dump _ = false
 
+-- the journals of both databases, compacted
+abbrev pub is_compact : List (List ℕ) → Bool
+is_compact (a ∷ []) = bytes_eq a (codes "compact")
+is_compact _ = false
+
 -- the command that they ask for, if they ask for one that is there
 abbrev pub command_of : List (List ℕ) → Option Command
-command_of words = if is_serial_run words then Some serial_run else (if is_dump words then Some Dump else None)
+command_of words = if is_serial_run words then Some serial_run else (if is_dump words then Some Dump else (if is_compact words then Some Compact else None))
 
 -- ---- what a command does
 

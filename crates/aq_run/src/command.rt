@@ -1,6 +1,6 @@
 // The commands of the program, and the words that ask for them.
 ghost use Rattle.std.specs.Prelude.{◌≡◌};
-ghost use Rattle.aq_run.specs.Words.{is_serial_run, is_dump, command_of};
+ghost use Rattle.aq_run.specs.Words.{is_serial_run, is_dump, is_compact, command_of};
 
 use aq_base::Words;
 
@@ -43,6 +43,12 @@ fn is_dump(words: &Words) -> bool
     words.count() == 1 && words.get(0) == Some("dump")
 }
 
+fn is_compact(words: &Words) -> bool
+    ensures { result ≡ is_compact words.now }
+{
+    words.count() == 1 && words.get(0) == Some("compact")
+}
+
 /// The command that the words ask for, if they ask for one that is there.
 pub fn command_of(words: &Words) -> Option<Command>
     ensures { result ≡ command_of words.now }
@@ -54,6 +60,8 @@ pub fn command_of(words: &Words) -> Option<Command>
         })
     } else if is_dump(words) {
         Some(Command::Dump)
+    } else if is_compact(words) {
+        Some(Command::Compact)
     } else {
         None
     }

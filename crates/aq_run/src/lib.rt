@@ -2,6 +2,7 @@
 #![tactic(auto)]
 
 mod command;
+mod compact;
 mod dump;
 mod outcome;
 mod play;

@@ -1,15 +1,17 @@
 // The top call.
 ghost use Rattle.std.specs.Prelude.{◌≡◌, ◌⊎◌, None, Some, false, []};
 ghost use Rattle.std.specs.Option.{ForSome};
+ghost use Rattle.aq_run.specs.Compacting.{Compacts};
 ghost use Rattle.aq_run.specs.Dumping.{Dumps};
 ghost use Rattle.aq_run.specs.Histories.{HoldsOf};
 ghost use Rattle.aq_run.specs.SerialRun.{RunsSerially};
 ghost use Rattle.aq_run.specs.Serve.{usage_text, CanServe, HasCauses, LeavesAlone, LeavesDisks, TakesInput};
 ghost use Rattle.aq_run.specs.Serve.{TellsUsage};
 ghost use Rattle.aq_run.specs.Words.{command_of, runs_in_threads, serial_run};
-ghost use Rattle.aq_run.specs.declared.command.Command.TheVariants.{Dump};
+ghost use Rattle.aq_run.specs.declared.command.Command.TheVariants.{Compact, Dump};
 
 use crate::command::{Command, command_of};
+use crate::compact::compact;
 use crate::dump::dump;
 use crate::outcome::Outcome;
 use crate::serial_run::run_serially;
@@ -58,6 +60,8 @@ pub fn serve<I: Source, O: Sink, D: Disk, C: Clock>(
     ensures serial_run { command_of words.now ≡ Some serial_run → RunsSerially I.Source O.Sink D.Disk
         input.old input.new out.old out.new home away result }
     ensures dump { command_of words.now ≡ Some Dump → Dumps O.Sink D.Disk out.old out.new home away result }
+    ensures compact { command_of words.now ≡ Some Compact → Compacts O.Sink D.Disk
+        out.old out.new home away result }
     ensures holds { HoldsOf result.history }
     ensures disks { LeavesDisks D.Disk home away result }
     ensures reading { TakesInput I.Source (command_of words.now) input.old input.new }
@@ -87,6 +91,8 @@ pub fn serve_serial<I: Source, O: Sink, D: Disk, C: Clock>(
     ensures serial_run { command_of words.now ≡ Some serial_run → RunsSerially I.Source O.Sink D.Disk
         input.old input.new out.old out.new home away result }
     ensures dump { command_of words.now ≡ Some Dump → Dumps O.Sink D.Disk out.old out.new home away result }
+    ensures compact { command_of words.now ≡ Some Compact → Compacts O.Sink D.Disk
+        out.old out.new home away result }
     ensures holds { HoldsOf result.history }
     ensures disks { LeavesDisks D.Disk home away result }
     ensures reading { TakesInput I.Source (command_of words.now) input.old input.new }
@@ -98,8 +104,8 @@ pub fn serve_serial<I: Source, O: Sink, D: Disk, C: Clock>(
     match command_of(words) {
         Some(Command::Run { .. }) => run_serially(alloc, input, out, home, away, clock),
         Some(Command::Dump) => dump(alloc, out, home, away, clock),
+        Some(Command::Compact) => compact(alloc, out, home, away, clock),
         // These are no commands for the words yet.
-        Some(Command::Compact) => no_command(alloc, out, home, away, clock),
         Some(Command::Generate { .. }) => no_command(alloc, out, home, away, clock),
         Some(Command::Audit) => no_command(alloc, out, home, away, clock),
         None => no_command(alloc, out, home, away, clock),

@@ -1,9 +1,10 @@
 // What is written: histories, tables, and what is told of a call that reached no run.
-ghost use Rattle.std.specs.Prelude.{◌≡◌, ◌⊎◌, IfOk, OnOk, OnErr};
+ghost use Rattle.std.specs.Prelude.{◌≡◌, ◌⊎◌, IfOk, OnOk, OnErr, string_bytes};
 ghost use Rattle.aq_run.specs.Written.{Tells, Writes};
 ghost use Rattle.aq_run.specs.Faults.{bad_line_text, damaged_text};
 ghost use Rattle.transcript.specs.Print.{print};
 ghost use Rattle.transcript.specs.Rows.{db_word};
+ghost use Rattle.aq_run.specs.Compacting.{compacted_text};
 ghost use Rattle.aq_run.specs.Dumping.{dump_text};
 ghost use Rattle.aq_run.specs.Outcomes.{IsRun};
 
@@ -95,6 +96,28 @@ pub fn show_tables<O: Sink>(alloc: Global, out: &mut O, home: &Tables, away: &Ta
 {
     match dump_text(alloc, home, away) {
         Ok(text) => write(out, &text),
+        Err(AllocError) => 4,
+    }
+}
+
+/// What is told of two journals that had so many frames.
+fn frames_text(alloc: Global, home: u64, away: u64) -> Result<String, AllocError>
+    ensures { IfOk result (λ text. string_bytes text ≡ compacted_text home away) }
+{
+    let mut text = format!(in alloc; "compacted home {home}")?;
+    let of_away = format!(in alloc; " away {away}\n")?;
+    text.push_str(of_away.as_str())?;
+    Ok(text)
+}
+
+/// Tells how many frames both journals had, as far as the sink takes it; at 4 nothing of it.
+pub fn show_frames<O: Sink>(alloc: Global, out: &mut O, home: u64, away: u64) -> u8
+    ensures known { IsRun result ⊎ (result ≡ 4) }
+    ensures writes { Writes O.taken O.faults out.old out.new (compacted_text home away) result }
+    ensures nothing { result ≡ 4 → O.taken out.new ≡ O.taken out.old }
+{
+    match frames_text(alloc, home, away) {
+        Ok(text) => write(out, text.as_bytes()),
         Err(AllocError) => 4,
     }
 }
