@@ -1,0 +1,3 @@
+pub mod Names
+pub mod Readable
+pub mod Tests
